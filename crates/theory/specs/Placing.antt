@@ -56,11 +56,12 @@ keeping a r = record { vector = a ∷ r .vector; puts = r .puts; exchanges = r .
 -- Placing x_i on a vector whose first entry, a, is that of x_i: v is the tail.
 abbrev pub placeHere : Presentation → ℕ → ℕ → Vector → Placed
 placeHere P i a v =
-    record
-    { vector = raised (P .exponent i) a ∷ setDown P (length v) i a
-    ; puts = conjugates P i (spell (suc i) v)
-    ; exchanges = total v
-    ; powers = powerUses (P .exponent i) a }
+    record {
+      vector = raised (P .exponent i) a ∷ setDown P (length v) i a;
+      puts = conjugates P i (spell (suc i) v);
+      exchanges = total v;
+      powers = powerUses (P .exponent i) a;
+    }
 
 -- Placing x_i on a vector whose first generator is m.
 abbrev pub place : Presentation → ℕ → Vector → ℕ → Placed
@@ -91,19 +92,21 @@ abbrev pub put : Presentation → ℕ → ℕ → Vector → ℕ → Vector
 put P zero m v i = v
 put P (suc k) m [] i = []
 put P (suc k) m (a ∷ v) i =
-    elim (eqb i m)
-    [ true ↦ raised (P .exponent m) a ∷ folded (put P k (suc m)) (setDown P k m a) (conjugates P m (spell (suc m) v))
-    | false ↦ a ∷ put P k (suc m) v i ]
+    elim (eqb i m) [
+      | true ↦ raised (P .exponent m) a ∷ folded (put P k (suc m)) (setDown P k m a) (conjugates P m (spell (suc m) v))
+      | false ↦ a ∷ put P k (suc m) v i
+    ]
 
 -- The replacements of x_i and of all that it puts.
 abbrev pub putCount : Presentation → ℕ → ℕ → Vector → ℕ → ℕ
 putCount P zero m v i = 0
 putCount P (suc k) m [] i = 0
 putCount P (suc k) m (a ∷ v) i =
-    elim (eqb i m)
-    [ true ↦ total v + powerUses (P .exponent m) a
-        + summed (put P k (suc m)) (putCount P k (suc m)) (setDown P k m a) (conjugates P m (spell (suc m) v))
-    | false ↦ putCount P k (suc m) v i ]
+    elim (eqb i m) [
+      | true ↦ total v + powerUses (P .exponent m) a
+          + summed (put P k (suc m)) (putCount P k (suc m)) (setDown P k m a) (conjugates P m (spell (suc m) v))
+      | false ↦ putCount P k (suc m) v i
+    ]
 
 abbrev pub collect : Presentation → ℕ → ℕ → Vector → Word → Vector
 collect P k m v w = folded (put P k m) v w

@@ -7,3 +7,6 @@ pub mod Consistency
 pub mod Inverse
 pub mod Prefix
 pub mod Group
+pub mod Listing
+pub mod Deciding
+pub mod Examples

@@ -5,3 +5,4 @@ pub mod Replacement
 pub mod Joined
 pub mod Placing
 pub mod Overlaps
+pub mod Examples

@@ -93,7 +93,7 @@ put P zero m v i = v
 put P (suc k) m [] i = []
 put P (suc k) m (a ∷ v) i =
     elim (eqb i m) [
-      | true ↦ raised (P .exponent m) a ∷ folded (put P k (suc m)) (setDown P k m a) (conjugates P m (spell (suc m) v))
+      | true ↦ raised (P .exponent m) a ∷ folded (put P k (suc m)) (setDown P k m a) (placeHere P m a v .puts)
       | false ↦ a ∷ put P k (suc m) v i
     ]
 
@@ -103,8 +103,7 @@ putCount P zero m v i = 0
 putCount P (suc k) m [] i = 0
 putCount P (suc k) m (a ∷ v) i =
     elim (eqb i m) [
-      | true ↦ total v + powerUses (P .exponent m) a
-          + summed (put P k (suc m)) (putCount P k (suc m)) (setDown P k m a) (conjugates P m (spell (suc m) v))
+      | true ↦ cost (placeHere P m a v) + summed (put P k (suc m)) (putCount P k (suc m)) (setDown P k m a) (placeHere P m a v .puts)
       | false ↦ putCount P k (suc m) v i
     ]
 

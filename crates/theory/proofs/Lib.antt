@@ -7,6 +7,7 @@ pub mod Consistency
 pub mod Inverse
 pub mod Prefix
 pub mod Group
+pub mod Arrays
 pub mod Listing
 pub mod Deciding
 pub mod Examples

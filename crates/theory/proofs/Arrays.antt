@@ -2,7 +2,7 @@
 --
 -- Main results: `place-is`, one placing by the index of its entry; `conjugate-length` and `conjugates-length`, bounds of the letters
 -- that a placing puts.
-use mathlib.Core.Path.{_≡_, refl, sym, ap, ap₂, _∙_, subst}
+use mathlib.Core.Path.{_≡_, refl, sym, ap, ap₂, _∙_, subst, subst₂}
 use mathlib.Core.List.{List, [], _∷_, _++_}
 use Prim.Native.Nat.{ℕ, zero, suc, _+_, _-_, _*_, _≤_, _<_}
 use native.Mathlib.Omega.{arith}
@@ -83,3 +83,11 @@ module _ (P : Presentation) where
       let s : length (P .conjugate i g) ≤ b = h g (o .0 .0) (o .0 .1) in
       let t : suc (length w) * b ≡ b + length w * b = omega arith in
       omega (arith, e)
+
+  -- The entries from an index on.
+  pub drop-normal : (d k l m j : ℕ) (v : Vector) → l ≡ d + k → j ≡ d + m → Normal P l m v → Normal P k j (drop d v)
+  drop-normal zero k l m j v a b p =
+      let q : l ≡ k = omega arith in let r : m ≡ j = omega arith in subst₂ (λ (x y : ℕ). Normal P x y v) q r p
+  drop-normal (suc d) k zero m j v a b p = absurd (omega arith)
+  drop-normal (suc d) k (suc l) m j [] a b p = absurd p
+  drop-normal (suc d) k (suc l) m j (x ∷ v) a b p = drop-normal d k l (suc m) j v (omega arith) (omega arith) (p .1)

@@ -31,21 +31,21 @@ module _ (P : Presentation) where
       subst (λ (x : ℕ). place P m (a ∷ v) x ≡ placedAt (a ∷ v) x zero) q
       (place-here P m a v
       ∙ ap (λ (k : ℕ). record {
-          vector = raised (P .exponent m) a ∷ setDown P k m a;
-          puts = conjugates P m (spell (suc m) v);
-          exchanges = total v;
-          powers = powerUses (P .exponent m) a;
-        }) s)
+        vector = raised (P .exponent m) a ∷ setDown P k m a;
+        puts = conjugates P m (spell (suc m) v);
+        exchanges = total v;
+        powers = powerUses (P .exponent m) a;
+      }) s)
   place-is m (a ∷ v) i (suc d) h f =
       let s : length v - suc d ≡ suc (length v) - suc (suc d) = omega arith in
       place-above P m a i v (omega arith)
       ∙ ap (keeping a) (place-is (suc m) v i d (omega arith) (omega arith))
       ∙ ap (λ (k : ℕ). record {
-          vector = a ∷ (take d v ++ (raised (P .exponent i) (getD v d 0) ∷ setDown P k i (getD v d 0)));
-          puts = conjugates P i (spell (suc i) (drop (suc d) v));
-          exchanges = total (drop (suc d) v);
-          powers = powerUses (P .exponent i) (getD v d 0);
-        }) s
+        vector = a ∷ (take d v ++ (raised (P .exponent i) (getD v d 0) ∷ setDown P k i (getD v d 0)));
+        puts = conjugates P i (spell (suc i) (drop (suc d) v));
+        exchanges = total (drop (suc d) v);
+        powers = powerUses (P .exponent i) (getD v d 0);
+      }) s
 
   -- A vector's word has as many letters as the entries' sum.
   pub spell-length : (m : ℕ) (v : Vector) → length (spell m v) ≡ total v
@@ -91,3 +91,12 @@ module _ (P : Presentation) where
   drop-normal (suc d) k zero m j v a b p = absurd (omega arith)
   drop-normal (suc d) k (suc l) m j [] a b p = absurd p
   drop-normal (suc d) k (suc l) m j (x ∷ v) a b p = drop-normal d k l (suc m) j v (omega arith) (omega arith) (p .1)
+
+  -- One entry of a normal vector.
+  pub normal-at : (k m d : ℕ) (v : Vector) → Normal P k m v → d < k → getD v d 0 < P .exponent (d + m)
+  normal-at zero m d v p h = absurd (omega arith)
+  normal-at (suc k) m d [] p h = absurd p
+  normal-at (suc k) m zero (a ∷ v) p h = let e : m ≡ 0 + m = omega arith in subst (λ (x : ℕ). a < P .exponent x) e (p .0)
+  normal-at (suc k) m (suc d) (a ∷ v) p h =
+      let e : d + suc m ≡ suc d + m = omega arith in
+      subst (λ (x : ℕ). getD v d 0 < P .exponent x) e (normal-at k (suc m) d v (p .1) (omega arith))

@@ -19,10 +19,10 @@ use Rattle.slots.specs.Pieces.{Piece, meaning, AllWellFormed}
 use Rattle.placing.specs.Ready.{Ground}
 use Rattle.collector.specs.declared.Answer.{Answer}
 use Rattle.collector.specs.Run.{Outcome, begun}
-use Rattle.collector.specs.Inputs.{vectorRight}
+use Rattle.collector.specs.Inputs.{vectorRight, wordRight, wordSlots, powerSlots}
 use Rattle.collector.specs.Running.{Tells, Settled, Answers}
 use Rattle.collector.specs.Starting.{Held}
-use Rattle.collector.specs.Calls.{depthCall, firstEntry, Left, Leaves, closed, untouched, judgedFirst, vectorFirst, wordFirst, vectorNumber}
+use Rattle.collector.specs.Calls.{collectCall, productCall, depthCall, firstEntry, roomOf, Left, Leaves, closed, untouched, judgedFirst, vectorFirst, wordFirst, vectorNumber}
 use Rattle.collector.proofs.Holding.{told}
 use Rattle.collector.proofs.Finished.{begun-refuses, closes}
 
@@ -63,6 +63,20 @@ module _ (nums : List ℕ) (v : Vector) where
 
   pub go-first : (ws : List ℕ) (go : Left) → Accepts → judgedFirst nums v ws (vectorFirst (vectorRight nums v) v ws go) ≡ go
   go-first ws go a = rw (eq-eqb (judged nums) 0 (a .accepts), a .vector-right, judgedFirst, vectorFirst)
+
+-- Collecting and products, once the presentation and the vector are accepted, by their second test.
+module _ (nums : List ℕ) (v : Vector) (a : Accepts nums v) (budget : ℕ) (ws : List ℕ) where
+  pub word-refused : (w : List ℕ) → wordRight nums w ≡ false → collectCall nums v w budget ws ≡ untouched 8 v ws
+  word-refused w f = rw (eq-eqb (judged nums) 0 (a .accepts), a .vector-right, f, collectCall, judgedFirst, vectorFirst, wordFirst)
+
+  pub word-accepted : (w : List ℕ) → wordRight nums w ≡ true → collectCall nums v w budget ws ≡ closed (begun nums budget (roomOf ws) v (wordSlots w) 0) v ws
+  word-accepted w f = rw (eq-eqb (judged nums) 0 (a .accepts), a .vector-right, f, collectCall, judgedFirst, vectorFirst, wordFirst)
+
+  pub right-refused : (u : Vector) → vectorRight nums u ≡ false → productCall nums v u budget ws ≡ untouched 7 v ws
+  right-refused u f = go-first nums v ws _ a ∙ ap (λ (t : Bool). vectorFirst t v ws (closed (begun nums budget (roomOf ws) v (powerSlots 1 u) 0) v ws)) f
+
+  pub right-accepted : (u : Vector) → vectorRight nums u ≡ true → productCall nums v u budget ws ≡ closed (begun nums budget (roomOf ws) v (powerSlots 1 u) 0) v ws
+  right-accepted u f = go-first nums v ws _ a ∙ ap (λ (t : Bool). vectorFirst t v ws (closed (begun nums budget (roomOf ws) v (powerSlots 1 u) 0) v ws)) f
 
 -- What is left where nothing is touched.
 pub leaves-untouched : {answer : Answer} {left : Left} (k : ℕ) (v : Vector) (ws : List ℕ) → left ≡ untouched k v ws → answer .number ≡ k → answer .count ≡ 0

@@ -11,8 +11,8 @@ use lib.ListN.{length, getD, set, take, drop, length-set}
 use denote.Ref.{now}
 use borrow.Author.Tests.{not-true, not-false}
 use Rattle.layout.proofs.Accepted.{accepted}
-use Rattle.collector.specs.Calls.{vectorNumber, wordFirst}
-use Rattle.collector.proofs.Calling.{refused-first, accepted-first, go-first, leaves-untouched, leaves-as}
+use Rattle.collector.specs.Calls.{vectorNumber}
+use Rattle.collector.proofs.Calling.{refused-first, accepted-first, word-refused, word-accepted, leaves-untouched, leaves-as}
 use Rattle.collector.proofs.calls.collect.Statement.{statement}
 use Rattle.collector.proofs.calls.collect.Tie as tie
 use Rattle.collector.proofs.calls.collect.Reads as reads
@@ -62,7 +62,7 @@ returns-2 : tie.Need-returns-2
 returns-2 c =
     let a = accepted-first (now (c .before .before .before .before .before .before .before .before .before .before .before .args .numbers)) (now (c .before .before .before .before .before .before .before .before .before .before .before .args .vector)) (sym (c .before .before .before .before .before .judge-vector .ensures) ∙ c .before .before .before .before .if1 .left) in
     leaves-untouched 8 (now (c .before .before .before .before .before .before .before .before .before .before .before .args .vector)) (now (c .before .before .before .before .before .before .before .before .before .before .before .args .work))
-    (go-first (now (c .before .before .before .before .before .before .before .before .before .before .before .args .numbers)) (now (c .before .before .before .before .before .before .before .before .before .before .before .args .vector)) (now (c .before .before .before .before .before .before .before .before .before .before .before .args .work)) _ a ∙ ap (λ (t : Bool). wordFirst t (now (c .before .before .before .before .before .before .before .before .before .before .before .args .vector)) (now (c .before .before .before .before .before .before .before .before .before .before .before .args .work)) _) (sym (c .before .before .word-right .ensures) ∙ not-true _ (c .before .if2 .taken)))
+    (word-refused (now (c .before .before .before .before .before .before .before .before .before .before .before .args .numbers)) (now (c .before .before .before .before .before .before .before .before .before .before .before .args .vector)) a (c .before .before .before .before .before .before .before .before .before .before .before .args .budget) (now (c .before .before .before .before .before .before .before .before .before .before .before .args .work)) (now (c .before .before .before .before .before .before .before .before .before .before .before .args .word)) (sym (c .before .before .word-right .ensures) ∙ not-true _ (c .before .if2 .taken)))
     (c .untouched2 .ensures .0) (c .untouched2 .ensures .1)
 
 -- src/calls.rt:102:5
@@ -83,8 +83,7 @@ same-length-4 c = search needs
 returns-3 : tie.Need-returns-3
 returns-3 c =
     let a = accepted-first (now (c .before .before .before .before .before .before .before .before .before .before .before .before .before .before .before .before .before .args .numbers)) (now (c .before .before .before .before .before .before .before .before .before .before .before .before .before .before .before .before .before .args .vector)) (sym (c .before .before .before .before .before .before .before .before .before .before .before .judge-vector .ensures) ∙ c .before .before .before .before .before .before .before .before .before .before .if1 .left) in
-    leaves-as
-    (go-first (now (c .before .before .before .before .before .before .before .before .before .before .before .before .before .before .before .before .before .args .numbers)) (now (c .before .before .before .before .before .before .before .before .before .before .before .before .before .before .before .before .before .args .vector)) (now (c .before .before .before .before .before .before .before .before .before .before .before .before .before .before .before .before .before .args .work)) _ a ∙ ap (λ (t : Bool). wordFirst t (now (c .before .before .before .before .before .before .before .before .before .before .before .before .before .before .before .before .before .args .vector)) (now (c .before .before .before .before .before .before .before .before .before .before .before .before .before .before .before .before .before .args .work)) _) (sym (c .before .before .before .before .before .before .before .before .word-right .ensures) ∙ not-false _ (c .before .before .before .before .before .before .before .if2 .left)))
+    leaves-as (word-accepted (now (c .before .before .before .before .before .before .before .before .before .before .before .before .before .before .before .before .before .args .numbers)) (now (c .before .before .before .before .before .before .before .before .before .before .before .before .before .before .before .before .before .args .vector)) a (c .before .before .before .before .before .before .before .before .before .before .before .before .before .before .before .before .before .args .budget) (now (c .before .before .before .before .before .before .before .before .before .before .before .before .before .before .before .before .before .args .work)) (now (c .before .before .before .before .before .before .before .before .before .before .before .before .before .before .before .before .before .args .word)) (sym (c .before .before .before .before .before .before .before .before .word-right .ensures) ∙ not-false _ (c .before .before .before .before .before .before .before .if2 .left)))
     (c .before .before .before .before .collect-judged .ensures)
 
 pub collect-spec : {M : Type 1} → statement M

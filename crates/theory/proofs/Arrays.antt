@@ -8,9 +8,10 @@ use Prim.Native.Nat.{ℕ, zero, suc, _+_, _-_, _*_, _≤_, _<_}
 use native.Mathlib.Omega.{arith}
 use native.Mathlib.Nat.{mul-le-mul-right}
 use lib.ListN.{length, getD, take, drop, replicate, length-append, length-replicate}
-use Rattle.theory.specs.Presentation.{Presentation, Word, Vector, spell, Normal, Over, Valid}
-use Rattle.theory.specs.Placing.{Placed, conjugates, total, raised, setDown, powerUses, place, placeHere, keeping}
-use Rattle.theory.proofs.Words.{place-here, place-above}
+use Rattle.theory.specs.Presentation.{Presentation, Word, Vector, spell, identity, Normal, Over, Valid}
+use Rattle.theory.specs.Placing.{Placed, collect, conjugates, total, raised, setDown, powerUses, place, placeHere, keeping}
+use Rattle.theory.proofs.Words.{over-weaken, place-here, place-above}
+use Rattle.theory.proofs.Collecting.{collect-above}
 
 module _ (P : Presentation) where
   -- Placing x_i: the entry of x_i is raised, the entries above it are cleared, or w_i is set down there.
@@ -100,3 +101,14 @@ module _ (P : Presentation) where
   normal-at (suc k) m (suc d) (a ∷ v) p h =
       let e : d + suc m ≡ suc d + m = omega arith in
       subst (λ (x : ℕ). getD v d 0 < P .exponent x) e (normal-at k (suc m) d v (p .1) (omega arith))
+
+  -- Below its letters a vector keeps its entries: here, zeros.
+  pub collect-deep : (d k l m j : ℕ) (h : Vector) (w : Word) → l ≡ d + k → j ≡ d + m → Over P j w
+      → collect P l m (identity d ++ h) w ≡ identity d ++ collect P k j h w
+  collect-deep zero k l m j h w a b o =
+      let q : l ≡ k = omega arith in let r : m ≡ j = omega arith in
+      ap₂ (λ (x y : ℕ). collect P x y h w) q r
+  collect-deep (suc d) k zero m j h w a b o = absurd (omega arith)
+  collect-deep (suc d) k (suc l) m j h w a b o =
+      collect-above P l m 0 (identity d ++ h) w (over-weaken P (suc m) j w (omega arith) o)
+      ∙ ap {B = Vector} (λ x. 0 ∷ x) (collect-deep d k l (suc m) j h w (omega arith) (omega arith) o)

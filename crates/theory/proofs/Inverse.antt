@@ -28,7 +28,7 @@ head-tail P k m (a ∷ v) p = refl
 
 module _ (P : Presentation) (valid : Valid P) where
   -- An entry that is raised b times by one modulo e.
-  turned : ℕ → ℕ → ℕ → ℕ
+  pub turned : ℕ → ℕ → ℕ → ℕ
   turned e a zero = a
   turned e a (suc b) = turned e (raised e a) b
 
@@ -60,11 +60,11 @@ module _ (P : Presentation) (valid : Valid P) where
       ∙ block-head k m b (raised (P .exponent m) a) (collect P k (suc m) (setDown P k m a) (conjugates P m (spell (suc m) v)))
 
   -- The complement is the one number below the exponent that brings the entry back to 0.
-  complement-below : (e a : ℕ) → a < e → complement e a < e
+  pub complement-below : (e a : ℕ) → a < e → complement e a < e
   complement-below e zero h = h
   complement-below e (suc a) h = omega arith
 
-  complement-clears : (e a : ℕ) → a < e → turned e a (complement e a) ≡ 0
+  pub complement-clears : (e a : ℕ) → a < e → turned e a (complement e a) ≡ 0
   unfolding turned
   complement-clears e zero h = refl
   complement-clears e (suc a) h =
@@ -101,7 +101,7 @@ module _ (P : Presentation) (valid : Valid P) where
   tail-normal k m (a ∷ v) p = p .1
 
   -- What is left once x_m is placed b times: its entry turned, and the entries above it.
-  block-left : (k m b a : ℕ) (v : Vector) → Level P (suc k) m → Normal P (suc k) m (a ∷ v)
+  pub block-left : (k m b a : ℕ) (v : Vector) → Level P (suc k) m → Normal P (suc k) m (a ∷ v)
       → collect P (suc k) m (a ∷ v) (replicate b m) ≡ turned (P .exponent m) a b ∷ tail (collect P (suc k) m (a ∷ v) (replicate b m))
   block-left k m b a v l p =
       head-tail P k m (collect P (suc k) m (a ∷ v) (replicate b m)) (collect-normal P valid (suc k) m (a ∷ v) (replicate b m) l p)
@@ -117,7 +117,7 @@ module _ (P : Presentation) (valid : Valid P) where
       ∙ collect-above P k m (turned (P .exponent m) a b) (tail (collect P (suc k) m (a ∷ v) (replicate b m))) (spell (suc m) r)
       (spell-over P k (suc m) r (omega (arith, l .fits)) q)
 
-  above-normal : (k m b a : ℕ) (v : Vector) → Level P (suc k) m → Normal P (suc k) m (a ∷ v)
+  pub above-normal : (k m b a : ℕ) (v : Vector) → Level P (suc k) m → Normal P (suc k) m (a ∷ v)
       → Normal P k (suc m) (tail (collect P (suc k) m (a ∷ v) (replicate b m)))
   above-normal k m b a v l p =
       tail-normal k m (collect P (suc k) m (a ∷ v) (replicate b m)) (collect-normal P valid (suc k) m (a ∷ v) (replicate b m) l p)

@@ -1,0 +1,2 @@
+-- What the headline theorems say, in the words of the demands.
+pub mod Demands

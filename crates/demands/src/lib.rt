@@ -1,0 +1,1 @@
+// The headline theorems have no code: what the calls promise, in the words of the demands, stands in proofs/.

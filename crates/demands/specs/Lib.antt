@@ -1,2 +1,3 @@
--- What the headline theorems say, in the words of the demands.
+-- What the headline theorems say, in the words of the demands, and document 01's marked examples.
 pub mod Demands
+pub mod Marked

@@ -2,3 +2,4 @@
 pub mod Meaning
 pub mod Demands
 pub mod Marked
+pub mod Outcomes

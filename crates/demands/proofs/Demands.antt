@@ -2,6 +2,7 @@
 --
 -- Main results:
 --   `collect-means`, `product-means`, `inverse-means`      demand 2, where a call answers DONE
+--   `collect-vector`, `product-vector`                     and its vector is the theory's
 --   `collect-by-rules`, `product-by-rules`                 demand 2, for DONE, 9 and 10 alike: the call answers what the placing rules say
 --   `collect-larger`, `product-larger`, `inverse-larger`   demand 3: a larger budget or room never changes an accepted answer
 --   `collect-work`, `product-work`, `inverse-work`         what the workspace held at entry never matters
@@ -16,7 +17,7 @@ use lib.Dec.{ltb, eqb}
 use borrow.Author.Tests.{le-ltb, lt-ltb, eqb-true, eqb-false}
 use Rattle.theory.specs.Presentation.{Presentation, Word, Vector, spell, identity, Normal}
 use Rattle.theory.specs.Replacement.{leftmost, steps}
-use Rattle.theory.specs.Placing.{Collects, collect, invert}
+use Rattle.theory.specs.Placing.{Collects, collect, product, invert}
 use Rattle.theory.proofs.Words.{spell-over, spell-identity}
 use Rattle.theory.proofs.Collecting.{Level, whole, collects-to, collect-normal}
 use Rattle.theory.proofs.Leftmost.{collected-steps, normal-ends}
@@ -66,13 +67,18 @@ module _ (nums : List ℕ) (accepts : judged nums ≡ 0) (budget : ℕ) (v : Vec
   is-done : closed o v ws .number ≡ 0 → o ≡ done (closed o v ws .vector) (closed o v ws .count)
   is-done e = closed-done o v ws (begun-refuses nums accepts budget (roomOf ws) v slots 0 normal formed (omega arith)) e
 
+  -- The vector, as the theory's function gives it.
+  begun-vector : closed o v ws .number ≡ 0 → closed o v ws .vector ≡ collect P (rankOf nums) 1 v (letters slots)
+  begun-vector e =
+      let c = begun-collects nums accepts budget (roomOf ws) v slots 0 normal formed (is-done e) in
+      collects-to P (valid nums accepts) (rankOf nums) 1 (whole P) normal (pieces-over nums slots formed) (c .2) .1
+
   begun-means : closed o v ws .number ≡ 0 → Collected nums v (letters slots) (closed o v ws .count) (closed o v ws .vector)
   begun-means e =
       let c = begun-collects nums accepts budget (roomOf ws) v slots 0 normal formed (is-done e) in
       let over = pieces-over nums slots formed in
-      let to = collects-to P (valid nums accepts) (rankOf nums) 1 (whole P) normal over (c .2) in
       let n : Normal P (rankOf nums) 1 (closed o v ws .vector) =
-      subst (Normal P (rankOf nums) 1) (sym (to .1)) (collect-normal P (valid nums accepts) (rankOf nums) 1 v (letters slots) (whole P) normal) in
+      subst (Normal P (rankOf nums) 1) (sym (begun-vector e)) (collect-normal P (valid nums accepts) (rankOf nums) 1 v (letters slots) (whole P) normal) in
       let same : closed o v ws .count ≡ c .0 = omega (arith, c .1) in
       record {
         normal = n;
@@ -124,6 +130,16 @@ module _ (nums : List ℕ) (v : Vector) (w : List ℕ) (budget : ℕ) (ws : List
       (begun-means nums (a .first .accepts) budget v (vector-normal nums v (a .first .vector-right)) (wordSlots w) (word-formed nums w (a .word-right)) ws
       (ap (λ (l : Left). l .number) (sym is) ∙ e)))
 
+  pub collect-vector : collectCall nums v w budget ws .number ≡ 0
+      → collectCall nums v w budget ws .vector ≡ collect (presentation nums) (rankOf nums) 1 v (relations.letters w)
+  collect-vector e =
+      let a = collect-accepted e in
+      let is = collect-is a in
+      ap (λ (l : Left). l .vector) is
+      ∙ begun-vector nums (a .first .accepts) budget v (vector-normal nums v (a .first .vector-right)) (wordSlots w) (word-formed nums w (a .word-right)) ws
+      (ap (λ (l : Left). l .number) (sym is) ∙ e)
+      ∙ ap (collect (presentation nums) (rankOf nums) 1 v) (word-letters w)
+
   pub collect-by-rules : {o : Outcome} → CollectAccepts → length (wordSlots w) ≤ roomOf ws → Runs nums budget (roomOf ws) v (wordSlots w) 0 o
       → collectCall nums v w budget ws ≡ closed o v ws
   collect-by-rules a h r =
@@ -173,6 +189,15 @@ module _ (nums : List ℕ) (u v : Vector) (budget : ℕ) (ws : List ℕ) where
       (subst (λ (l : Left). Collected nums u (letters (powerSlots 1 v)) (l .count) (l .vector)) (sym is)
       (begun-means nums (a .first .accepts) budget u (vector-normal nums u (a .first .vector-right)) (powerSlots 1 v) (formed a) ws
       (ap (λ (l : Left). l .number) (sym is) ∙ e)))
+
+  pub product-vector : productCall nums u v budget ws .number ≡ 0 → productCall nums u v budget ws .vector ≡ product (presentation nums) (rankOf nums) 1 u v
+  product-vector e =
+      let a = product-accepted e in
+      let is = product-is a in
+      ap (λ (l : Left). l .vector) is
+      ∙ begun-vector nums (a .first .accepts) budget u (vector-normal nums u (a .first .vector-right)) (powerSlots 1 v) (formed a) ws
+      (ap (λ (l : Left). l .number) (sym is) ∙ e)
+      ∙ ap (collect (presentation nums) (rankOf nums) 1 u) (power-letters 1 v)
 
   pub product-by-rules : {o : Outcome} → ProductAccepts → length (powerSlots 1 v) ≤ roomOf ws → Runs nums budget (roomOf ws) u (powerSlots 1 v) 0 o
       → productCall nums u v budget ws ≡ closed o u ws

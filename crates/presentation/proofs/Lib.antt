@@ -1,0 +1,10 @@
+pub mod Accepting
+pub mod Asking
+pub mod Beside
+pub mod Cells
+pub mod Outcomes
+pub mod Plainly
+pub mod Spelling
+pub mod Standing
+pub mod Straight
+pub mod Thin

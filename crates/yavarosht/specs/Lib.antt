@@ -1,0 +1,2 @@
+-- The C face: what its functions hand out.
+pub mod Handed

@@ -2,5 +2,6 @@
 pub mod Meaning
 pub mod Demands
 pub mod Joining
+pub mod Checking
 pub mod Marked
 pub mod Outcomes

@@ -2,7 +2,9 @@
 --
 -- Main result: `all-hold`.
 use mathlib.Core.Path.{refl}
+use Rattle.consistency.specs.Check.{checkOf}
 use Rattle.demands.specs.Marked.{AllHold, marked}
 
 pub all-hold : AllHold marked
-all-hold = ((refl, refl, refl), ((refl, refl, refl), ((refl, refl, refl), ((refl, refl, refl), ((refl, refl, refl), ((refl, refl, refl), ((refl, refl, refl), ((refl, refl, refl), ((refl, refl, refl), ((refl, refl, refl), ((refl, refl, refl), tt)))))))))))
+unfolding checkOf
+all-hold = ((refl, refl, refl), ((refl, refl, refl), ((refl, refl, refl), ((refl, refl, refl), ((refl, refl, refl), ((refl, refl, refl), ((refl, refl, refl), ((refl, refl, refl), ((refl, refl, refl), ((refl, refl, refl), ((refl, refl, refl), ((refl, refl, refl), tt))))))))))))

@@ -25,6 +25,7 @@ use Rattle.presentation.proofs.collect as collect
 use Rattle.presentation.proofs.product as product
 use Rattle.presentation.proofs.inverse as inverse
 use Rattle.presentation.proofs.depth as depth
+use Rattle.presentation.proofs.check as check
 
 pub opens-once : (lent : RefT (List ℕ)) (d e : Presentation) → Opens lent d → Opens lent e
     → (d .number ≡ e .number) × (d .p ≡ e .p) × (d .n ≡ e .n) × (d .numbers .now ≡ e .numbers .now) × (ptr (d .numbers) .0 ≡ ptr (e .numbers) .0) × (ptr (d .numbers) .1 ≡ ptr (e .numbers) .1)
@@ -57,3 +58,6 @@ module _ {M : Type 1} (𝓤 : URA M) (H : Heap 𝓤) (A : Atoms 𝓤) (mem : Mem
 
   pub depth-ignores : (κs : Lfts 2) (a : Denots (typesAt (rest-of (depth.signature .params)) κs)) → depth.spec 𝓤 H A mem run κs (d, a) ≡ depth.spec 𝓤 H A mem run κs (remade d x y z, a)
   depth-ignores κs a = refl
+
+  pub check-ignores : (κs : Lfts 2) (a : Denots (typesAt (rest-of (check.signature .params)) κs)) → check.spec 𝓤 H A mem run κs (d, a) ≡ check.spec 𝓤 H A mem run κs (remade d x y z, a)
+  check-ignores κs a = refl

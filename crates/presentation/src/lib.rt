@@ -9,15 +9,19 @@ pub mod opening; // the record's fields, each from the lent numbers
 
 use collector::Answer;
 use collector::DepthAnswer;
+use consistency::Checked;
 use layout::Generator;
 use layout::judge;
 use opening::prime_in;
 use opening::rank_in;
 use opening::standing;
 ghost use mathlib.Core.Path.{_≡_};
+ghost use Prim.Native.Nat.{_/_};
+ghost use lib.ListN.{length};
 ghost use Rattle.layout.specs.Contents.{Lies};
 ghost use Rattle.layout.specs.Words.{wordOf, wordAt};
 ghost use Rattle.collector.specs.Calls.{collectCall, productCall, inverseCall, depthCall, Leaves};
+ghost use Rattle.consistency.specs.Check.{checkOf, workAfter};
 ghost use Rattle.presentation.specs.Opened.{stood, Opens};
 
 pub struct Presentation<'a> {
@@ -97,6 +101,13 @@ pub fn depth(presentation: Presentation, vector: &[u8]) -> DepthAnswer
     ensures { λ r. ⌜ r ≡ depthCall (now (presentation .entry .numbers)) (now (vector .entry)) ⌝ }
 {
     collector::depth(presentation.numbers, vector)
+}
+
+pub fn check(presentation: Presentation, budget: u32, work: &mut [u16]) -> Checked
+    ensures { λ r. ⌜ r ≡ checkOf (now (presentation .entry .numbers)) budget (length (now (work .entry)) / 3) ⌝ }
+    ensures { λ r. ⌜ now (work .exit) ≡ workAfter (now (presentation .entry .numbers)) (now (work .entry)) ⌝ }
+{
+    consistency::check(presentation.numbers, budget, work)
 }
 
 // Opens the numbers and collects over what was opened: its parameters are plain, so whoever calls it needs no proof by hand.

@@ -29,7 +29,7 @@
  * type, that stay alive and are not changed by others during the call; each pointer to a single uint32_t points to one. What a call
  * writes (a pointer that is not const) overlaps nothing else that is passed in that call. In particular a product needs two separate
  * vectors, also for a square. A null pointer with length 0 is an empty array; a null pointer is nowhere else allowed. Calls keep no
- * state, so threads may call at the same time on separate buffers. A call uses less than 1 kB of stack and allocates nothing. */
+ * state and allocate nothing, so threads may call at the same time on separate buffers. */
 #ifndef YAVAROSHT_H
 #define YAVAROSHT_H
 

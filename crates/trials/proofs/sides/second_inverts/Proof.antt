@@ -1,0 +1,32 @@
+-- The loop ends at its bound, and keeps the length of what it writes.
+use borrow.Author.Needs.{needs}
+use mathlib.Core.Path.{_≡_}
+use Prim.Native.Nat.{_-_}
+use lib.ListN.{length}
+use Rattle.trials.proofs.sides.second_inverts.Statement.{statement}
+use Rattle.trials.proofs.sides.second_inverts.Tie as tie
+
+abbrev Inv-loop : tie.InvT-loop
+Inv-loop numbers stands₀ next₀ out₀ letters₀ all₀ at₀ at-end stands next out letters all at = (length stands ≡ length stands₀) × (length next ≡ length next₀) × (length out ≡ length out₀) × (length letters ≡ length letters₀)
+
+abbrev μ-loop : tie.MeasureT-loop
+μ-loop numbers stands₀ next₀ out₀ letters₀ all₀ at₀ at-end stands next out letters all at = at-end - at
+
+pub second-inverts-spec : {M : Type 1} → statement M
+second-inverts-spec =
+    tie.close
+    (tie.spec
+    Inv-loop
+    μ-loop
+    (λ c κs. search needs)
+    (λ c. search needs)
+    (λ c κs. search needs)
+    (λ c κs. search needs)
+    (λ c. search needs)
+    (λ c. search needs)
+    (λ c. search needs)
+    (λ c. search needs)
+    (λ c. search needs)
+    (λ c. search needs)
+    (λ c. search needs)
+    (λ c. search needs))

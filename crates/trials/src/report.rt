@@ -1,0 +1,51 @@
+// Printing: a case on which the collectors disagree, and the line of counts.
+use crate::Tally;
+use crate::arith::entry_at;
+use crate::arith::number_at;
+use io::print_decimal;
+use io::write_all;
+
+fn space_and(n: usize) {
+    write_all(1, b" ");
+    print_decimal(1, n as u64);
+}
+
+fn print_numbers(numbers: &[u16]) {
+    for at in 0..numbers.len() {
+        space_and(number_at(numbers, at));
+    }
+}
+
+fn print_entries(vector: &[u8]) {
+    for at in 0..vector.len() {
+        space_and(entry_at(vector, at));
+    }
+}
+
+// A case: the presentation's numbers, the vector, and the word or the right factor.
+pub fn disagreement(numbers: &[u16], vector: &[u8], word: &[u16], right: &[u8], call: &[u8]) {
+    write_all(1, b"the collectors disagree on ");
+    write_all(1, call);
+    write_all(1, b": numbers");
+    print_numbers(numbers);
+    write_all(1, b"; vector");
+    print_entries(vector);
+    write_all(1, b"; with");
+    print_numbers(word);
+    print_entries(right);
+    write_all(1, b"\n");
+}
+
+fn counted(count: u64, of: &[u8]) {
+    print_decimal(1, count);
+    write_all(1, of);
+}
+
+pub fn summary(tally: Tally) {
+    counted(tally.presentations, b" presentations, ");
+    counted(tally.collections, b" words, ");
+    counted(tally.products, b" products, ");
+    counted(tally.inverses, b" inverses, ");
+    counted(tally.replacements, b" replacements: ");
+    counted(tally.wrong, b" disagreements\n");
+}

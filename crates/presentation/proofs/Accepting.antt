@@ -1,27 +1,22 @@
 -- What a judged number tells of an opening.
---     past-end         past the end there is a 0
---     is-in            p or n, as it is put together
+--     none-in, some-in     p or n of numbers that are refused, and of others
 --     held-none, held-all  the record stands over the empty part at the beginning of numbers that are refused, and over the very slice of others
 --     answers-short    over what a refused opening stands on, every call answers 1
-use mathlib.Core.Path.{_≡_, refl, sym, ap, _∙_}
+use mathlib.Core.Path.{_≡_, sym, ap, _∙_}
 use mathlib.Core.Bool.{Bool, false}
-use mathlib.Core.List.{List, [], _∷_}
-use Prim.Native.Nat.{ℕ, zero, suc, _≤_}
-use lib.Dec.{eqb}
-use lib.ListN.{length, getD}
+use mathlib.Core.List.{List}
+use Prim.Native.Nat.{ℕ}
 use borrow.Author.Tests.{eq-eqb, ne-eqb}
 use denote.Ref.{RefT}
-use native.Mathlib.Omega.{arith}
 use Rattle.layout.specs.Judged.{judged}
 use Rattle.presentation.specs.Opened.{ifAccepted, allOrNone, accepted, stood, Empty, Stands}
 
-pub past-end : (xs : List ℕ) (i : ℕ) → length xs ≤ i → 0 ≡ getD xs i 0
-past-end [] i h = refl
-past-end (x ∷ xs) zero h = absurd (omega arith)
-past-end (x ∷ xs) (suc i) h = past-end xs i (omega arith)
+-- p or n, from the number: 0 where it says refused, else as the header has it
+pub none-in : (nums : List ℕ) (number x : ℕ) → number ≡ judged nums → (number ≡ 0 → ⊥) → 0 ≡ ifAccepted (accepted nums) x
+none-in nums number x e h = ap (λ (t : Bool). ifAccepted t x) (sym (ne-eqb (judged nums) 0 (λ z. h (e ∙ z))))
 
-pub is-in : (nums : List ℕ) (i n x r : ℕ) → n ≡ judged nums → x ≡ getD nums i 0 → r ≡ ifAccepted (eqb n 0) x → r ≡ ifAccepted (accepted nums) (getD nums i 0)
-is-in nums i n x r a b e = e ∙ (ap (λ (m : ℕ). ifAccepted (eqb m 0) x) a ∙ ap (ifAccepted (accepted nums)) b)
+pub some-in : (nums : List ℕ) (number x y : ℕ) → number ≡ judged nums → number ≡ 0 → y ≡ x → y ≡ ifAccepted (accepted nums) x
+some-in nums number x y e z w = w ∙ ap (λ (t : Bool). ifAccepted t x) (sym (eq-eqb (judged nums) 0 (sym e ∙ z)))
 
 pub held-none : (lent held : RefT (List ℕ)) (r : ℕ) → r ≡ judged (lent .now) → (r ≡ 0 → ⊥) → Empty lent held → Stands lent held
 held-none lent held r e h m = record {

@@ -30,18 +30,18 @@ use Rattle.presentation.proofs.check as check
 pub opens-once : (lent : RefT (List ℕ)) (d e : Presentation) → Opens lent d → Opens lent e
     → (d .number ≡ e .number) × (d .p ≡ e .p) × (d .n ≡ e .n) × (d .numbers .now ≡ e .numbers .now) × (ptr (d .numbers) .0 ≡ ptr (e .numbers) .0) × (ptr (d .numbers) .1 ≡ ptr (e .numbers) .1)
 opens-once lent d e a b =
-    (a .number ∙ sym (b .number), a .prime ∙ sym (b .prime), a .rank ∙ sym (b .rank), a .stands .holds ∙ sym (b .stands .holds), a .stands .block ∙ sym (b .stands .block), a .stands .offset ∙ sym (b .stands .offset))
+    (a .number ∙ sym (b .number), λ i. record { 0 = (a .prime ∙ sym (b .prime)) i }, λ i. record { 0 = (a .rank ∙ sym (b .rank)) i }, a .stands .holds ∙ sym (b .stands .holds), a .stands .block ∙ sym (b .stands .block), a .stands .offset ∙ sym (b .stands .offset))
 
 pub opens-same : (lent : RefT (List ℕ)) (d e : Presentation) → judged (lent .now) ≡ 0 → Opens lent d → Opens lent e → d ≡ e
 opens-same lent d e z a b i = record {
   number = (a .number ∙ sym (b .number)) i;
-  p = (a .prime ∙ sym (b .prime)) i;
-  n = (a .rank ∙ sym (b .rank)) i;
+  p = record { 0 = (a .prime ∙ sym (b .prime)) i };
+  n = record { 0 = (a .rank ∙ sym (b .rank)) i };
   numbers = (a .stands .same z ∙ sym (b .stands .same z)) i;
 }
 
 abbrev pub remade : Presentation → ℕ → ℕ → ℕ → Presentation
-remade d x y z = record { number = x; p = y; n = z; numbers = d .numbers }
+remade d x y z = record { number = x; p = record { 0 = y }; n = record { 0 = z }; numbers = d .numbers }
 
 module _ {M : Type 1} (𝓤 : URA M) (H : Heap 𝓤) (A : Atoms 𝓤) (mem : Memory → SProp 𝓤) (run : Routine → Fun 𝓤) (d : Presentation) (x y z : ℕ) where
   pub word-of-ignores : (κs : Lfts 1) (a : Denots (typesAt (rest-of (word-of.signature .params)) κs)) → word-of.spec 𝓤 H A mem run κs (d, a) ≡ word-of.spec 𝓤 H A mem run κs (remade d x y z, a)

@@ -6,8 +6,8 @@ use mathlib.Core.Bool.{Bool, true, false}
 use mathlib.Core.List.{List, []}
 use Prim.Native.Nat.{ℕ}
 use lib.Dec.{eqb}
-use lib.ListN.{getD}
 use denote.Ref.{RefT, ptr}
+use Rattle.layout.specs.Header.{primeOf, rankOf}
 use Rattle.layout.specs.Judged.{judged}
 use Rattle.presentation.specs.declared.Presentation.{Presentation}
 
@@ -25,10 +25,10 @@ accepted nums = eqb (judged nums) 0
 
 -- p and n
 abbrev pub primeIn : List ℕ → ℕ
-primeIn nums = ifAccepted (accepted nums) (getD nums 0 0)
+primeIn nums = ifAccepted (accepted nums) (primeOf nums)
 
 abbrev pub rankIn : List ℕ → ℕ
-rankIn nums = ifAccepted (accepted nums) (getD nums 1 0)
+rankIn nums = ifAccepted (accepted nums) (rankOf nums)
 
 -- The numbers that the record stands over.
 abbrev pub stood : List ℕ → List ℕ
@@ -50,6 +50,6 @@ pub record Stands (lent held : RefT (List ℕ)) : Type 0 where
 -- The record that opening hands back, field by field.
 pub record Opens (lent : RefT (List ℕ)) (opened : Presentation) : Type 0 where
   pub number : opened .number ≡ judged (lent .now)
-  pub prime : opened .p ≡ primeIn (lent .now)
-  pub rank : opened .n ≡ rankIn (lent .now)
+  pub prime : opened .p .0 ≡ primeIn (lent .now)
+  pub rank : opened .n .0 ≡ rankIn (lent .now)
   pub stands : Stands lent (opened .numbers)

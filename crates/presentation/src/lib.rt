@@ -5,11 +5,12 @@
 // known from its value. Each call over it takes the record apart and calls the function on plain parameters on its numbers: that
 // one judges the numbers afresh, and the record's number, p and n are read by no call. A record that was put together by hand, with
 // another p or n, changes nothing.
-pub mod opening; // the record's fields, each from the lent numbers
+mod opening; // the record's fields, from the lent numbers and the number that they got
 
 use collector::Answer;
 use collector::DepthAnswer;
 use consistency::Checked;
+use layout::Exponent;
 use layout::Generator;
 use layout::judge;
 use opening::prime_in;
@@ -27,9 +28,9 @@ ghost use Rattle.presentation.specs.Opened.{stood, Opens};
 pub struct Presentation<'a> {
     // The number that opening gave: 0 if the numbers are accepted.
     pub number: u8,
-    // p, and n; 0 if they are refused.
-    pub p: u16,
-    pub n: u16,
+    // p, and the last generator, x_n; both 0 if they are refused.
+    pub p: Exponent,
+    pub n: Generator,
     // The lent numbers; the empty part at their beginning if they are refused.
     pub numbers: &'a [u16],
 }
@@ -38,9 +39,9 @@ pub fn open<'a>(numbers: &'a [u16]) -> Presentation<'a>
     ensures { λ r. ⌜ Opens (numbers .entry) r ⌝ }
 {
     let number = judge(numbers);
-    let p = prime_in(numbers);
-    let n = rank_in(numbers);
-    let held = standing(numbers);
+    let p = prime_in(numbers, number);
+    let n = rank_in(numbers, number);
+    let held = standing(numbers, number);
     Presentation {
         number: number,
         p: p,

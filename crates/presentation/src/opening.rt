@@ -1,42 +1,32 @@
-// The fields of an opened presentation, each from the lent numbers by itself.
-use layout::judge;
+// The fields of an opened presentation, from the lent numbers and the number that they got. Inner functions, for `open`, which
+// judges the numbers once and hands the number down.
+use layout::Exponent;
+use layout::Generator;
+use layout::view_of;
 ghost use mathlib.Core.Path.{_≡_};
-ghost use lib.ListN.{getD};
-ghost use lib.Dec.{eqb};
-ghost use Rattle.presentation.specs.Opened.{ifAccepted, primeIn, rankIn, Empty, Stands};
-
-// The number at a place, 0 past the end.
-fn at_or_zero(numbers: &[u16], at: usize) -> u16
-    ensures { λ r. ⌜ r ≡ getD (now (numbers .entry)) at 0 ⌝ }
-{
-    if at < numbers.len() {
-        return numbers[at];
-    }
-    0
-}
-
-// x if the number says accepted, else 0.
-fn if_accepted(number: u8, x: u16) -> u16
-    ensures { λ r. ⌜ r ≡ ifAccepted (eqb number 0) x ⌝ }
-{
-    if number != 0 {
-        return 0;
-    }
-    x
-}
+ghost use Rattle.layout.specs.Judged.{judged};
+ghost use Rattle.presentation.specs.Opened.{primeIn, rankIn, Empty, Stands};
 
 // p of numbers that are accepted, else 0.
-pub fn prime_in(numbers: &[u16]) -> u16
-    ensures { λ r. ⌜ r ≡ primeIn (now (numbers .entry)) ⌝ }
+pub fn prime_in(numbers: &[u16], number: u8) -> Exponent
+    requires { ⌜ number ≡ judged (now numbers) ⌝ }
+    ensures { λ r. ⌜ r .0 ≡ primeIn (now (numbers .entry)) ⌝ }
 {
-    if_accepted(judge(numbers), at_or_zero(numbers, 0))
+    if number != 0 {
+        return Exponent(0);
+    }
+    view_of(numbers).prime
 }
 
 // n, likewise.
-pub fn rank_in(numbers: &[u16]) -> u16
-    ensures { λ r. ⌜ r ≡ rankIn (now (numbers .entry)) ⌝ }
+pub fn rank_in(numbers: &[u16], number: u8) -> Generator
+    requires { ⌜ number ≡ judged (now numbers) ⌝ }
+    ensures { λ r. ⌜ r .0 ≡ rankIn (now (numbers .entry)) ⌝ }
 {
-    if_accepted(judge(numbers), at_or_zero(numbers, 1))
+    if number != 0 {
+        return Generator(0);
+    }
+    view_of(numbers).rank
 }
 
 // The lent numbers themselves.
@@ -56,10 +46,11 @@ fn nothing(numbers: &[u16]) -> &[u16]
 }
 
 // The numbers themselves if they are accepted, else the empty part at their beginning.
-pub fn standing(numbers: &[u16]) -> &[u16]
+pub fn standing(numbers: &[u16], number: u8) -> &[u16]
+    requires { ⌜ number ≡ judged (now numbers) ⌝ }
     ensures { λ r. ⌜ Stands (numbers .entry) r ⌝ }
 {
-    if judge(numbers) != 0 {
+    if number != 0 {
         return nothing(numbers);
     }
     whole(numbers)

@@ -1,13 +1,26 @@
--- `prime_in` is p of numbers that are accepted, and else 0.
-use borrow.Author.Needs.{needs}
+-- `prime_in` is p of numbers that are accepted, as the header has it, and else 0.
+use mathlib.Core.Path.{sym, _∙_}
 use denote.Ref.{now}
-use Rattle.presentation.proofs.Accepting.{is-in}
+use Rattle.layout.specs.Header.{primeOf}
+use Rattle.layout.proofs.Accepted.{accepted}
+use Rattle.presentation.proofs.Accepting.{none-in, some-in}
 use Rattle.presentation.proofs.opening.prime_in.Statement.{statement}
 use Rattle.presentation.proofs.opening.prime_in.Tie as tie
 
 returns : tie.Need-returns
 returns c =
-    is-in (now (c .before .before .before .before .args .numbers)) 0 (c .before .before .judge .result) (c .before .at-or-zero .result) (c .if-accepted .result) (c .before .before .judge .ensures) (c .before .at-or-zero .ensures) (c .if-accepted .ensures)
+    let s = c .before .before in
+    none-in (now (s .args .numbers)) (s .args .number) (primeOf (now (s .args .numbers))) (s .pre) (c .if1 .taken)
+
+view-of-requires : tie.Need-view-of-requires
+view-of-requires c κs =
+    let s = c .before .before in
+    accepted (now (s .args .numbers)) (sym (s .pre) ∙ c .if1 .left) .long
+
+returns-2 : tie.Need-returns-2
+returns-2 c =
+    let s = c .before .before .before .before in
+    some-in (now (s .args .numbers)) (s .args .number) (primeOf (now (s .args .numbers))) (c .before .view-of .result .prime .0) (s .pre) (c .before .before .if1 .left) (c .before .view-of .ensures .prime)
 
 pub prime-in-spec : {M : Type 1} → statement M
-prime-in-spec = tie.close (tie.spec (λ c κs. search needs) (λ c κs. search needs) (λ c κs. search needs) returns)
+prime-in-spec = tie.close (tie.spec returns view-of-requires returns-2)

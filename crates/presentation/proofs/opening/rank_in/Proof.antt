@@ -1,13 +1,26 @@
--- `rank_in` is n of numbers that are accepted, and else 0.
-use borrow.Author.Needs.{needs}
+-- `rank_in` is n of numbers that are accepted, as the header has it, and else 0.
+use mathlib.Core.Path.{sym, _∙_}
 use denote.Ref.{now}
-use Rattle.presentation.proofs.Accepting.{is-in}
+use Rattle.layout.specs.Header.{rankOf}
+use Rattle.layout.proofs.Accepted.{accepted}
+use Rattle.presentation.proofs.Accepting.{none-in, some-in}
 use Rattle.presentation.proofs.opening.rank_in.Statement.{statement}
 use Rattle.presentation.proofs.opening.rank_in.Tie as tie
 
 returns : tie.Need-returns
 returns c =
-    is-in (now (c .before .before .before .before .args .numbers)) 1 (c .before .before .judge .result) (c .before .at-or-zero .result) (c .if-accepted .result) (c .before .before .judge .ensures) (c .before .at-or-zero .ensures) (c .if-accepted .ensures)
+    let s = c .before .before in
+    none-in (now (s .args .numbers)) (s .args .number) (rankOf (now (s .args .numbers))) (s .pre) (c .if1 .taken)
+
+view-of-requires : tie.Need-view-of-requires
+view-of-requires c κs =
+    let s = c .before .before in
+    accepted (now (s .args .numbers)) (sym (s .pre) ∙ c .if1 .left) .long
+
+returns-2 : tie.Need-returns-2
+returns-2 c =
+    let s = c .before .before .before .before in
+    some-in (now (s .args .numbers)) (s .args .number) (rankOf (now (s .args .numbers))) (c .before .view-of .result .rank .0) (s .pre) (c .before .before .if1 .left) (c .before .view-of .ensures .rank)
 
 pub rank-in-spec : {M : Type 1} → statement M
-rank-in-spec = tie.close (tie.spec (λ c κs. search needs) (λ c κs. search needs) (λ c κs. search needs) returns)
+rank-in-spec = tie.close (tie.spec returns view-of-requires returns-2)

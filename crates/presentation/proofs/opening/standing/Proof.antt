@@ -6,11 +6,13 @@ use Rattle.presentation.proofs.opening.standing.Tie as tie
 
 returns : tie.Need-returns
 returns c =
-    held-none (c .before .before .before .before .args .numbers) (c .nothing .result) (c .before .before .judge .result) (c .before .before .judge .ensures) (c .before .if1 .taken) (c .nothing .ensures)
+    let s = c .before .before .before in
+    held-none (s .args .numbers) (c .nothing .result) (s .args .number) (s .pre) (c .before .if1 .taken) (c .nothing .ensures)
 
 returns-2 : tie.Need-returns-2
 returns-2 c =
-    held-all (c .before .before .before .before .args .numbers) (c .whole .result) (c .before .before .judge .result) (c .before .before .judge .ensures) (c .before .if1 .left) (c .whole .ensures .1)
+    let s = c .before .before .before in
+    held-all (s .args .numbers) (c .whole .result) (s .args .number) (s .pre) (c .before .if1 .left) (c .whole .ensures .1)
 
 pub standing-spec : {M : Type 1} → statement M
-standing-spec = tie.close (tie.spec (λ c κs. search needs) (λ c κs. search needs) returns (λ c κs. search needs) returns-2)
+standing-spec = tie.close (tie.spec (λ c κs. search needs) returns (λ c κs. search needs) returns-2)

@@ -1,22 +1,45 @@
 -- What a judged number tells of an opening.
---     none-in, some-in     p or n of numbers that are refused, and of others
+--     not-short        numbers that do not get 1 have a header
+--     shows-none, shows-all    p and n of numbers that are refused, and of others
 --     held-none, held-all  the record stands over the empty part at the beginning of numbers that are refused, and over the very slice of others
 --     answers-short    over what a refused opening stands on, every call answers 1
-use mathlib.Core.Path.{_≡_, sym, ap, _∙_}
-use mathlib.Core.Bool.{Bool, false}
+use mathlib.Core.Path.{_≡_, refl, sym, ap, _∙_}
+use mathlib.Core.Bool.{Bool, true, false}
 use mathlib.Core.List.{List}
-use Prim.Native.Nat.{ℕ}
-use borrow.Author.Tests.{eq-eqb, ne-eqb}
+use Prim.Native.Nat.{ℕ, _≤_}
+use lib.ListN.{length}
+use borrow.Author.Tests.{leb-true, eq-eqb, ne-eqb}
 use denote.Ref.{RefT}
+use Rattle.layout.specs.declared.View.{View}
+use Rattle.layout.specs.Header.{Seen, headed, primeOf, rankOf}
 use Rattle.layout.specs.Judged.{judged}
-use Rattle.presentation.specs.Opened.{ifAccepted, allOrNone, accepted, stood, Empty, Stands}
+use Rattle.layout.proofs.Cascade.{short}
+use Rattle.presentation.specs.Opened.{ifAccepted, allOrNone, accepted, stood, Shows, Empty, Stands}
 
--- p or n, from the number: 0 where it says refused, else as the header has it
-pub none-in : (nums : List ℕ) (number x : ℕ) → number ≡ judged nums → (number ≡ 0 → ⊥) → 0 ≡ ifAccepted (accepted nums) x
-none-in nums number x e h = ap (λ (t : Bool). ifAccepted t x) (sym (ne-eqb (judged nums) 0 (λ z. h (e ∙ z))))
+-- numbers that do not get 1 have a header
+pub not-short : (nums : List ℕ) → (judged nums ≡ 1 → ⊥) → 2 ≤ length nums
+not-short nums h = go (headed nums) refl
+  where
+    go : (b : Bool) → headed nums ≡ b → 2 ≤ length nums
+    go true e = leb-true 2 (length nums) e
+    go false e = absurd (h (sym (short nums e)))
 
-pub some-in : (nums : List ℕ) (number x y : ℕ) → number ≡ judged nums → number ≡ 0 → y ≡ x → y ≡ ifAccepted (accepted nums) x
-some-in nums number x y e z w = w ∙ ap (λ (t : Bool). ifAccepted t x) (sym (eq-eqb (judged nums) 0 (sym e ∙ z)))
+-- p and n, from the number: 0 where it says refused, else as the view of the numbers has them
+pub shows-none : (nums : List ℕ) (number : ℕ) (view : View) → number ≡ judged nums → (number ≡ 0 → ⊥) → view .prime .0 ≡ 0 → view .rank .0 ≡ 0 → Shows nums view
+shows-none nums number view e h p n =
+    let f : accepted nums ≡ false = ne-eqb (judged nums) 0 (λ z. h (e ∙ z)) in
+    record {
+      prime = p ∙ ap (λ (t : Bool). ifAccepted t (primeOf nums)) (sym f);
+      rank = n ∙ ap (λ (t : Bool). ifAccepted t (rankOf nums)) (sym f);
+    }
+
+pub shows-all : (nums : List ℕ) (number : ℕ) (view : View) → number ≡ judged nums → number ≡ 0 → Seen nums view → Shows nums view
+shows-all nums number view e z seen =
+    let f : accepted nums ≡ true = eq-eqb (judged nums) 0 (sym e ∙ z) in
+    record {
+      prime = seen .prime ∙ ap (λ (t : Bool). ifAccepted t (primeOf nums)) (sym f);
+      rank = seen .rank ∙ ap (λ (t : Bool). ifAccepted t (rankOf nums)) (sym f);
+    }
 
 pub held-none : (lent held : RefT (List ℕ)) (r : ℕ) → r ≡ judged (lent .now) → (r ≡ 0 → ⊥) → Empty lent held → Stands lent held
 held-none lent held r e h m = record {

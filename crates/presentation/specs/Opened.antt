@@ -7,6 +7,7 @@ use mathlib.Core.List.{List, []}
 use Prim.Native.Nat.{ℕ}
 use lib.Dec.{eqb}
 use denote.Ref.{RefT, ptr}
+use Rattle.layout.specs.declared.View.{View}
 use Rattle.layout.specs.Header.{primeOf, rankOf}
 use Rattle.layout.specs.Judged.{judged}
 use Rattle.presentation.specs.declared.Presentation.{Presentation}
@@ -29,6 +30,11 @@ primeIn nums = ifAccepted (accepted nums) (primeOf nums)
 
 abbrev pub rankIn : List ℕ → ℕ
 rankIn nums = ifAccepted (accepted nums) (rankOf nums)
+
+-- The view says them. Where the contents and the bodies begin, an opened presentation does not tell.
+pub record Shows (nums : List ℕ) (view : View) : Type 0 where
+  pub prime : view .prime .0 ≡ primeIn nums
+  pub rank : view .rank .0 ≡ rankIn nums
 
 -- The numbers that the record stands over.
 abbrev pub stood : List ℕ → List ℕ

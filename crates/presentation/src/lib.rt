@@ -13,9 +13,8 @@ use consistency::Checked;
 use layout::Exponent;
 use layout::Generator;
 use layout::judge;
-use opening::prime_in;
-use opening::rank_in;
 use opening::standing;
+use opening::view_in;
 ghost use mathlib.Core.Path.{_≡_};
 ghost use Prim.Native.Nat.{_/_};
 ghost use lib.ListN.{length};
@@ -39,13 +38,12 @@ pub fn open<'a>(numbers: &'a [u16]) -> Presentation<'a>
     ensures { λ r. ⌜ Opens (numbers .entry) r ⌝ }
 {
     let number = judge(numbers);
-    let p = prime_in(numbers, number);
-    let n = rank_in(numbers, number);
+    let view = view_in(numbers, number);
     let held = standing(numbers, number);
     Presentation {
         number: number,
-        p: p,
-        n: n,
+        p: view.prime,
+        n: view.rank,
         numbers: held,
     }
 }

@@ -2,31 +2,26 @@
 // judges the numbers once and hands the number down.
 use layout::Exponent;
 use layout::Generator;
+use layout::View;
 use layout::view_of;
 ghost use mathlib.Core.Path.{_≡_};
 ghost use Rattle.layout.specs.Judged.{judged};
-ghost use Rattle.presentation.specs.Opened.{primeIn, rankIn, Empty, Stands};
+ghost use Rattle.presentation.specs.Opened.{Shows, Empty, Stands};
 
-// p of numbers that are accepted, else 0.
-pub fn prime_in(numbers: &[u16], number: u8) -> Exponent
+// The view of numbers that are accepted, else zeros: p and n are theirs or 0.
+pub fn view_in(numbers: &[u16], number: u8) -> View
     requires { ⌜ number ≡ judged (now numbers) ⌝ }
-    ensures { λ r. ⌜ r .0 ≡ primeIn (now (numbers .entry)) ⌝ }
+    ensures { λ r. ⌜ Shows (now (numbers .entry)) r ⌝ }
 {
     if number != 0 {
-        return Exponent(0);
+        return View {
+            prime: Exponent(0),
+            rank: Generator(0),
+            contents: 0,
+            bodies: 0,
+        };
     }
-    view_of(numbers).prime
-}
-
-// n, likewise.
-pub fn rank_in(numbers: &[u16], number: u8) -> Generator
-    requires { ⌜ number ≡ judged (now numbers) ⌝ }
-    ensures { λ r. ⌜ r .0 ≡ rankIn (now (numbers .entry)) ⌝ }
-{
-    if number != 0 {
-        return Generator(0);
-    }
-    view_of(numbers).rank
+    view_of(numbers)
 }
 
 // The lent numbers themselves.
@@ -50,8 +45,8 @@ pub fn standing(numbers: &[u16], number: u8) -> &[u16]
     requires { ⌜ number ≡ judged (now numbers) ⌝ }
     ensures { λ r. ⌜ Stands (numbers .entry) r ⌝ }
 {
-    if number != 0 {
-        return nothing(numbers);
+    if number == 0 {
+        return whole(numbers);
     }
-    whole(numbers)
+    nothing(numbers)
 }

@@ -15,7 +15,7 @@ use sound.WpLaws.{FmC}
 use types.Kit.{Given, ‵, raw, _⊛_, _$_, _∵_, !, qed, by, move, keep, split, fjoin, frame, show, done}
 use contract.Lifetimes.{Lfts}
 use contract.Monad.{Fun, fact, factI}
-use denote.Laws.{Is, all-typed}
+use denote.Laws.{Is, valss, all-typed}
 use denote.Plain.{uint-vals, uint-makes}
 use denote.RattleType.{owns}
 use denote.Builtin.{u8, u16}
@@ -23,7 +23,9 @@ use denote.Ref.{RefT, NamedLft, now}
 use denote.Signature.{plain, namedLft}
 use denote.Slice.{ShrSlice, slice-vals}
 use denote.Steps.{nothing, owned}
-use denote.Struct.Laws.{makes as makes-plain}
+use denote.Struct.Declared.{fields}
+use denote.Struct.Laws.{spells, owed, makes as makes-plain}
+use denote.Struct.Struct.{AreAll}
 use denote.Struct.Rest.{own-shut}
 use denote.Triple.Clauses.{Ended, Lasts, lasts}
 use denote.Triple.Entry.{Args}
@@ -36,10 +38,12 @@ use Rattle.layout.proofs.Exponent as Exponent
 use Rattle.layout.proofs.Exponent.Laws as Exponent′
 use Rattle.layout.proofs.Generator as Generator
 use Rattle.layout.proofs.Generator.Laws as Generator′
+use Rattle.layout.proofs.View as View
+use Rattle.layout.proofs.View.Laws as View′
 use Rattle.layout.proofs.judge as judge
 use Rattle.layout.proofs.judge.Symbol as judge-def
 use Rattle.layout.proofs.judge.Met as judge-thm
-use Rattle.presentation.specs.Opened.{primeIn, rankIn, Stands, Opens}
+use Rattle.presentation.specs.Opened.{Shows, Stands, Opens}
 use Rattle.presentation.specs.declared.Presentation.{Presentation}
 use Rattle.presentation.proofs.Asking.{slice, kept, Question, Answer, has, still, asked}
 use Rattle.presentation.proofs.Cells.{Passing}
@@ -48,12 +52,9 @@ use Rattle.presentation.proofs.Straight.{straight}
 use Rattle.presentation.proofs.Thin.{spelled, posted, given, called, looped, framing}
 use Rattle.presentation.proofs.Presentation as T
 use Rattle.presentation.proofs.Presentation.Laws as T′
-use Rattle.presentation.proofs.opening.prime_in as prime-in
-use Rattle.presentation.proofs.opening.prime_in.Symbol as prime-in-def
-use Rattle.presentation.proofs.opening.prime_in.Met as prime-in-thm
-use Rattle.presentation.proofs.opening.rank_in as rank-in
-use Rattle.presentation.proofs.opening.rank_in.Symbol as rank-in-def
-use Rattle.presentation.proofs.opening.rank_in.Met as rank-in-thm
+use Rattle.presentation.proofs.opening.view_in as view-in
+use Rattle.presentation.proofs.opening.view_in.Symbol as view-in-def
+use Rattle.presentation.proofs.opening.view_in.Met as view-in-thm
 use Rattle.presentation.proofs.opening.standing as standing
 use Rattle.presentation.proofs.opening.standing.Symbol as standing-def
 use Rattle.presentation.proofs.opening.standing.Met as standing-thm
@@ -88,7 +89,7 @@ module _ {M : Type 1} (𝓤 : URA M) (H : Heap 𝓤) (A : Atoms 𝓤) (W : Given
   said T κs a φ = exE 𝓤 (λ (ws : Lasts T κs a). sep 𝓤 (sem 𝓤 H A (lasts T κs a ws)) (fact 𝓤 φ)) (λ ws. snd∗ 𝓤 (sem 𝓤 H A (lasts T κs a ws)) (fact 𝓤 φ))
 
   module _ (C : Calls 𝓤 H) (Λ : Loops 𝓤 H) (fm : FmC 𝓤 H (W .laws) C) (judges : Triple 𝓤 (C judge-def.name) (tripleOf 𝓤 H A judge.signature (judge.spec 𝓤 H A mem run)))
-      (primes : Triple 𝓤 (C prime-in-def.name) (tripleOf 𝓤 H A prime-in.signature (prime-in.spec 𝓤 H A mem run))) (ranks : Triple 𝓤 (C rank-in-def.name) (tripleOf 𝓤 H A rank-in.signature (rank-in.spec 𝓤 H A mem run)))
+      (views : Triple 𝓤 (C view-in-def.name) (tripleOf 𝓤 H A view-in.signature (view-in.spec 𝓤 H A mem run)))
       (stands : Triple 𝓤 (C standing-def.name) (tripleOf 𝓤 H A standing.signature (standing.spec 𝓤 H A mem run))) where
     -- what is asked first
     abbrev Asks : Type 2
@@ -125,42 +126,23 @@ module _ {M : Type 1} (𝓤 : URA M) (H : Heap 𝓤) (A : Atoms 𝓤) (W : Given
       got : ent 𝓤 (emp 𝓤) (fact 𝓤 (a .0 ≡ judged (now s)))
       got = factI 𝓤 (a .0 ≡ judged (now s)) (emp 𝓤) (a .1)
 
-      abbrev prime : Asks
-      prime = record {
+      abbrev seen : Asks
+      seen = record {
         also = plain (λ _. u8) ∷ [];
         args = (a .0, tt);
         vals = (uint-vals w8 (a .0), tt);
         had = known;
-        res = plain (λ _. Exponent.the-row);
-        spec = prime-in.spec 𝓤 H A mem run;
+        res = plain (λ _. View.the-row);
+        spec = view-in.spec 𝓤 H A mem run;
         ghost = tt;
-        kind = struct Exponent.the-type Exponent′.the-laws;
-        φ = λ r. r .0 ≡ primeIn (now s);
-        says = λ r. said prime-in.ended (κ, tt) (s, (a .0, tt)) (r .0 ≡ primeIn (now s));
+        kind = struct View.the-type View′.the-laws;
+        φ = Shows (now s);
+        says = λ r. said view-in.ended (κ, tt) (s, (a .0, tt)) (Shows (now s) r);
         brings = got;
-        type = Exponent′.mir;
+        type = View′.mir;
         lands = λ r t. t .0;
-        name = prime-in-def.name;
-        met = primes;
-      }
-
-      abbrev rank : Asks
-      rank = record {
-        also = plain (λ _. u8) ∷ [];
-        args = (a .0, tt);
-        vals = (uint-vals w8 (a .0), tt);
-        had = known;
-        res = plain (λ _. Generator.the-row);
-        spec = rank-in.spec 𝓤 H A mem run;
-        ghost = tt;
-        kind = struct Generator.the-type Generator′.the-laws;
-        φ = λ r. r .0 ≡ rankIn (now s);
-        says = λ r. said rank-in.ended (κ, tt) (s, (a .0, tt)) (r .0 ≡ rankIn (now s));
-        brings = got;
-        type = Generator′.mir;
-        lands = λ r t. t .0;
-        name = rank-in-def.name;
-        met = ranks;
+        name = view-in-def.name;
+        met = views;
       }
 
       abbrev held : Asks
@@ -182,22 +164,26 @@ module _ {M : Type 1} (𝓤 : URA M) (H : Heap 𝓤) (A : Atoms 𝓤) (W : Given
         met = stands;
       }
 
-    -- the record of the four answers
-    abbrev made : (a : Of number) → Of (prime a) → Of (rank a) → Of (held a) → Presentation
-    made a b c d = record { number = a .0; p = b .0; n = c .0; numbers = d .0 }
+    -- the record of the answers
+    abbrev made : (a : Of number) → Of (seen a) → Of (held a) → Presentation
+    made a b d = record { number = a .0; p = b .0 .prime; n = b .0 .rank; numbers = d .0 }
 
-    makes : (a : Of number) (b : Of (prime a)) (c : Of (rank a)) (d : Of (held a)) → ent 𝓤 (has 𝓤 H A W u16 κ q s C fm (held a) d) (Open .post at (T′.lowered (made a b c d)))
-    makes a b c d =
-        posted 𝓤 H A itself.signature (itself.spec 𝓤 H A mem run) W at (T′.lowered (made a b c d)) (made a b c d) _
+    -- each field of a view at the machine value that it spells
+    parts : (a : Of number) (b : Of (seen a)) → AreAll (fields View.the-type) (View.the-type .to (b .0)) (valss (fields View.the-type) (spells (View.the-type .parts) View′.the-laws) (View.the-type .to (b .0)))
+    parts a b = owed View.the-type View′.the-laws (b .0) _ (b .2)
+
+    makes : (a : Of number) (b : Of (seen a)) (d : Of (held a)) → ent 𝓤 (has 𝓤 H A W u16 κ q s C fm (held a) d) (Open .post at (T′.lowered (made a b d)))
+    makes a b d =
+        posted 𝓤 H A itself.signature (itself.spec 𝓤 H A mem run) W at (T′.lowered (made a b d)) (made a b d) _
         (qed W (((raw (A .lft κ q) ⊛ ‵ ftrue) ⊛ ‵ (ShrSlice (named 0) κ u16 .own (d .0) (slice-vals (d .0)))) ∷ raw Own ∷ []) ∵ split ! $ keep ! (0 ∷ 1 ∷ []) $ frame ! $
-        nothing ! $ move ! (1 ∷ 0 ∷ []) $ fjoin ! $ owned ! Generator.the-row (Is Generator.the-row) (makes-plain Generator.the-type Generator′.the-plain 𝓤 H A) (c .0) _ (c .2) $ fjoin ! $ owned ! Exponent.the-row (Is Exponent.the-row) (makes-plain Exponent.the-type Exponent′.the-plain 𝓤 H A) (b .0) _ (b .2) $ fjoin ! $
-        owned ! u8 (Is u8) (uint-makes 𝓤 H A W w8) (a .0) _ (a .2) $ fjoin ! $ by ! (own-shut 𝓤 H A W (T.the-type α) (T′.the-laws α) (a .0, (b .0, (c .0, (d .0, tt))))))
-        (says (made a b c d) (record { number = a .1; prime = b .1; rank = c .1; stands = d .1 }))
+        nothing ! $ move ! (1 ∷ 0 ∷ []) $ fjoin ! $ owned ! Generator.the-row (Is Generator.the-row) (makes-plain Generator.the-type Generator′.the-plain 𝓤 H A) (b .0 .rank) _ (parts a b .1 .0) $ fjoin ! $ owned ! Exponent.the-row (Is Exponent.the-row) (makes-plain Exponent.the-type Exponent′.the-plain 𝓤 H A) (b .0 .prime) _ (parts a b .0) $ fjoin ! $
+        owned ! u8 (Is u8) (uint-makes 𝓤 H A W w8) (a .0) _ (a .2) $ fjoin ! $ by ! (own-shut 𝓤 H A W (T.the-type α) (T′.the-laws α) (a .0, (b .0 .prime, (b .0 .rank, (d .0, tt))))))
+        (says (made a b d) (record { number = a .1; prime = b .1 .prime; rank = b .1 .rank; stands = d .1 }))
 
     runs : Passing (code.function .locals) (slice-vals s) → ent 𝓤 (Open .pre at) (WpFn 𝓤 H C Λ code.function (slice-vals s) (Open .post at))
     runs fits = via 𝓤 (kept 𝓤 H A W u16 κ q s) enters (straight 𝓤 H A W C Λ fm code.function (slice-vals s) (Open .post at) (kept 𝓤 H A W u16 κ q s) fits (λ bs.
-        asked 𝓤 H A W u16 κ q s C fm number _ (id⊢ 𝓤 _) _ (λ a. asked 𝓤 H A W u16 κ q s C fm (prime a) _ (still 𝓤 H A W u16 κ q s C fm number a) _ (λ b. asked 𝓤 H A W u16 κ q s C fm (rank a) _ (still 𝓤 H A W u16 κ q s C fm (prime a) b) _ (λ c.
-        asked 𝓤 H A W u16 κ q s C fm (held a) _ (still 𝓤 H A W u16 κ q s C fm (rank a) c) _ (λ d. record { ends = makes a b c d }))))))
+        asked 𝓤 H A W u16 κ q s C fm number _ (id⊢ 𝓤 _) _ (λ a. asked 𝓤 H A W u16 κ q s C fm (seen a) _ (still 𝓤 H A W u16 κ q s C fm number a) _ (λ b.
+        asked 𝓤 H A W u16 κ q s C fm (held a) _ (still 𝓤 H A W u16 κ q s C fm (seen a) b) _ (λ d. record { ends = makes a b d })))))
 
 pub open-spec : {M : Type 1} → statement M
 unfolding code.routine
@@ -210,7 +196,6 @@ open-spec 𝓤 H 𝓜 𝓖 𝓡 =
     (spelled 𝓤 H A itself.signature (itself.spec 𝓤 H A (𝓜 .mem) (𝓡 .run)) (WpFn 𝓤 H C Λ code.function) (λ κs. (shr-slice (named 0) (κs .0) u16, tt)) (λ κs qs bounds a g are.
     runs 𝓤 H A W (𝓜 .mem) (𝓡 .run) (κs .0) (qs .0) (a .0) C Λ (framing 𝓤 H 𝓜 𝓖 𝓡 code.env)
     (cited 𝓤 H (tripleOf 𝓤 H A judge.signature (judge.spec 𝓤 H A (𝓜 .mem) (𝓡 .run))) 𝓜 𝓡 code.env judge-def.name judge-def.routine code.calls-layout·judge (judge-thm.met 𝓤 H 𝓜 𝓖 𝓡))
-    (cited 𝓤 H (tripleOf 𝓤 H A prime-in.signature (prime-in.spec 𝓤 H A (𝓜 .mem) (𝓡 .run))) 𝓜 𝓡 code.env prime-in-def.name prime-in-def.routine code.calls-presentation·opening·prime-in (prime-in-thm.met 𝓤 H 𝓜 𝓖 𝓡))
-    (cited 𝓤 H (tripleOf 𝓤 H A rank-in.signature (rank-in.spec 𝓤 H A (𝓜 .mem) (𝓡 .run))) 𝓜 𝓡 code.env rank-in-def.name rank-in-def.routine code.calls-presentation·opening·rank-in (rank-in-thm.met 𝓤 H 𝓜 𝓖 𝓡))
+    (cited 𝓤 H (tripleOf 𝓤 H A view-in.signature (view-in.spec 𝓤 H A (𝓜 .mem) (𝓡 .run))) 𝓜 𝓡 code.env view-in-def.name view-in-def.routine code.calls-presentation·opening·view-in (view-in-thm.met 𝓤 H 𝓜 𝓖 𝓡))
     (cited 𝓤 H (tripleOf 𝓤 H A standing.signature (standing.spec 𝓤 H A (𝓜 .mem) (𝓡 .run))) 𝓜 𝓡 code.env standing-def.name standing-def.routine code.calls-presentation·opening·standing (standing-thm.met 𝓤 H 𝓜 𝓖 𝓡))
     (all-typed 𝓤 H A (ShrSlice (named 0) (κs .0) u16 ∷ []) (lawful-all 𝓤 H A W (ShrSlice (named 0) (κs .0) u16 ∷ []) (shr-slice (named 0) (κs .0) u16, tt)) a (slice-vals (a .0), tt) are)))

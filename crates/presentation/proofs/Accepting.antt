@@ -25,7 +25,7 @@ not-short nums h = go (headed nums) refl
     go false e = absurd (h (sym (short nums e)))
 
 -- p and n, from the number: 0 where it says refused, else as the view of the numbers has them
-pub shows-none : (nums : List ℕ) (number : ℕ) (view : View) → number ≡ judged nums → (number ≡ 0 → ⊥) → view .prime .0 ≡ 0 → view .rank .0 ≡ 0 → Shows nums view
+pub shows-none : (nums : List ℕ) (number : ℕ) (view : View) → number ≡ judged nums → (number ≡ 0 → ⊥) → view .prime .0 ≡ ifAccepted false (primeOf nums) → view .rank .0 ≡ ifAccepted false (rankOf nums) → Shows nums view
 shows-none nums number view e h p n =
     let f : accepted nums ≡ false = ne-eqb (judged nums) 0 (λ z. h (e ∙ z)) in
     record {

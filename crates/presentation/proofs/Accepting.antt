@@ -1,8 +1,7 @@
--- What a judged number tells of an opening.
+-- What a judged number tells of an opening, for the functions that make its fields.
 --     not-short        numbers that do not get 1 have a header
 --     shows-none, shows-all    p and n of numbers that are refused, and of others
 --     held-none, held-all  the record stands over the empty part at the beginning of numbers that are refused, and over the very slice of others
---     answers-short    over what a refused opening stands on, every call answers 1
 use mathlib.Core.Path.{_≡_, refl, sym, ap, _∙_}
 use mathlib.Core.Bool.{Bool, true, false}
 use mathlib.Core.List.{List}
@@ -14,7 +13,7 @@ use Rattle.layout.specs.declared.View.{View}
 use Rattle.layout.specs.Header.{Seen, headed, primeOf, rankOf}
 use Rattle.layout.specs.Judged.{judged}
 use Rattle.layout.proofs.Cascade.{short}
-use Rattle.presentation.specs.Opened.{ifAccepted, allOrNone, accepted, stood, Shows, Empty, Stands}
+use Rattle.presentation.specs.Opened.{ifAccepted, allOrNone, accepted, Shows, Empty, Stands}
 
 -- numbers that do not get 1 have a header
 pub not-short : (nums : List ℕ) → (judged nums ≡ 1 → ⊥) → 2 ≤ length nums
@@ -56,6 +55,3 @@ held-all lent held r e z w = record {
   offset = ap (λ (x : RefT (List ℕ)). x .ptr .1) w;
   same = λ _. w;
 }
-
-pub answers-short : (nums : List ℕ) → accepted nums ≡ false → judged (stood nums) ≡ 1
-answers-short nums e = ap (λ (t : Bool). judged (allOrNone t nums)) e

@@ -4,6 +4,7 @@ pub mod Beside
 pub mod Cells
 pub mod Outcomes
 pub mod Plainly
+pub mod Refusal
 pub mod Spelling
 pub mod Standing
 pub mod Straight

@@ -1,5 +1,5 @@
 -- `view_in` has p and n of numbers that are accepted, as the header has them, and else zeros.
-use mathlib.Core.Path.{_≡_, refl, sym, _∙_}
+use mathlib.Core.Path.{_≡_, refl, _∙_}
 use native.Mathlib.Omega.{arith}
 use denote.Ref.{now}
 use Rattle.presentation.proofs.Accepting.{not-short, shows-none, shows-all}

@@ -3,12 +3,12 @@
 -- Main results:
 --   `passed`          if the check passes, the presentation is consistent
 --   `differs-joined`  if it differs, the two vectors are normal, different, and their words joined
-use mathlib.Core.Path.{_≡_, refl, sym, ap, ap₂, _∙_, subst, subst₂}
-use mathlib.Core.List.{List, [], _∷_, _++_}
+use mathlib.Core.Path.{_≡_, refl, sym, ap, _∙_, subst}
+use mathlib.Core.List.{List, _++_}
 use mathlib.Core.Bool.{Bool, true, false}
-use Prim.Native.Nat.{ℕ, zero, suc, _+_, _-_, _≤_, _<_}
+use Prim.Native.Nat.{ℕ}
 use native.Mathlib.Omega.{arith}
-use lib.ListN.{length, replicate, take}
+use lib.ListN.{length, replicate}
 use lib.Dec.{eqb}
 use borrow.Author.Tests.{eq-eqb, ne-eqb, eqb-true, eqb-false}
 use Rattle.theory.specs.Presentation.{Presentation, Word, Vector, Normal, Over, spell, identity}
@@ -26,9 +26,9 @@ use Rattle.layout.proofs.Valid.{valid}
 use Rattle.consistency.specs.declared.Checked.{Checked}
 use Rattle.consistency.specs.declared.Overlap.{Overlap as Named}
 use Rattle.consistency.specs.declared.Verdict.{Verdict}
-use Rattle.consistency.specs.declared.Verdict.the-variants.{Pass, Differs, Refused, Stopped}
+use Rattle.consistency.specs.declared.Verdict.the-variants.{Pass, Differs, Refused}
 use Rattle.consistency.specs.Sides.{leftPieces, rightPieces}
-use Rattle.consistency.specs.Check.{overlapOf, named, sideOutcome, Judgement, agree, differ, Decision, passes, differs, stops, decide, decision, verdictOf, padded, leftOf, rightOf, checkedOf, refusedWith, checkOf, workAfter}
+use Rattle.consistency.specs.Check.{overlapOf, named, sideOutcome, Decision, passes, differs, stops, decision, verdictOf, padded, leftOf, rightOf, checkedOf, refusedWith, checkOf, workAfter}
 use Rattle.consistency.proofs.Spelling.{left-collects, right-collects, start-normal}
 use Rattle.consistency.proofs.Deciding.{Differed, agreed, differed, Differing, decide-passes, decide-differs}
 

@@ -1,19 +1,18 @@
 -- Which overlap settles the verdict.
 --
 -- Main results: `same-equal`, `equal-same`; `agreed`, `differed`; `decide-append`, `decide-passes`, `decide-differs`.
-use mathlib.Core.Path.{_≡_, refl, sym, ap, ap₂, _∙_, subst}
+use mathlib.Core.Path.{_≡_, refl, sym, ap, ap₂, _∙_}
 use mathlib.Core.List.{List, [], _∷_, _++_, List·Memᴰ, List·Memᴰ·head, List·Memᴰ·tail, List·Memᴰ·cases-cons, List·Memᴰ·not-nil}
 use mathlib.Core.Bool.{Bool, true, false}
 use mathlib.Core.Logic.{_⊎_, inl, inr}
-use Prim.Native.Nat.{ℕ, zero, suc, _+_, _-_, _≤_, _<_}
+use Prim.Native.Nat.{ℕ}
 use native.Mathlib.Omega.{arith}
 use lib.Dec.{eqb}
-use borrow.Author.Tests.{eq-eqb, eqb-true, eqb-false}
+use borrow.Author.Tests.{eq-eqb, eqb-true}
 use Rattle.theory.specs.Presentation.{Vector}
 use Rattle.theory.specs.Overlaps.{Overlap}
 use Rattle.collector.specs.Run.{Outcome, done, refused}
-use Rattle.consistency.specs.Sides.{leftPieces, rightPieces}
-use Rattle.consistency.specs.Check.{sideOutcome, Judgement, agree, differ, stop, same, compared, against, judging, judgement, Decision, passes, differs, stops, settling, decide}
+use Rattle.consistency.specs.Check.{Judgement, agree, differ, stop, same, compared, judging, judgement, Decision, passes, differs, stops, settling, decide}
 
 -- The test of two vectors.
 pub same-equal : (l r : Vector) → same l r ≡ true → l ≡ r

@@ -2,20 +2,19 @@
 --
 -- Main results: `laid-none`, `part-none`, `part-some`, `word-none`, `word-some`; `powered-some`; `side-sets`, `side-told`.
 use mathlib.Core.Path.{_≡_, refl, sym, ap, ap₂, _∙_, subst, subst₂}
-use mathlib.Core.List.{List, [], _∷_, map}
-use Prim.Native.Nat.{ℕ, zero, suc, _+_, _-_, _*_, _/_, _≤_, _<_}
+use mathlib.Core.List.{List, [], _∷_}
+use Prim.Native.Nat.{ℕ, zero, suc, _+_, _-_, _*_, _/_, _≤_}
 use native.Mathlib.Omega.{arith}
 use lib.ListN.{length, take, drop, replicate, length-drop}
 use lib.Seq.{drop-drop}
 use Rattle.layout.specs.declared.Span.{Span}
 use Rattle.layout.specs.Header.{rankOf, bodiesAt}
-use Rattle.layout.specs.Contents.{Spans, startOf, lengthOf, placeOf, stretchAt, stretchOf}
+use Rattle.layout.specs.Contents.{Spans, startOf, lengthOf, placeOf, stretchOf}
 use Rattle.layout.specs.Judged.{judged}
 use Rattle.layout.proofs.Bounds.{Relation, relation}
-use Rattle.slots.specs.declared.Slot.{Slot}
 use Rattle.slots.specs.declared.Slot.the-variants.{Power, Relation as Body}
-use Rattle.slots.specs.Pieces.{Piece, power, string, unread, meaning}
-use Rattle.collector.specs.Starting.{Put, Held}
+use Rattle.slots.specs.Pieces.{Piece, power, string, unread}
+use Rattle.collector.specs.Starting.{Put}
 use Rattle.collector.specs.declared.Answer.{Answer}
 use Rattle.collector.specs.Run.{begun}
 use Rattle.collector.specs.Running.{Sets, Settled, Answers}
@@ -27,7 +26,7 @@ use Rattle.layout.specs.Relations.{presentation}
 use Rattle.consistency.specs.Check.{sideOutcome}
 use Rattle.consistency.proofs.Spelling.{start-normal}
 use Rattle.consistency.specs.declared.Part.{Part}
-use Rattle.consistency.specs.Sides.{worded, powered, partPieces, PartRight}
+use Rattle.consistency.specs.Sides.{worded, powered, partPieces}
 use Rattle.consistency.specs.Laying.{Laid, Lays, LaysPart}
 
 pub laid-none : (n : ℕ) (bodies ws : List ℕ) → Laid n bodies [] ws 0

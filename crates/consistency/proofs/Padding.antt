@@ -2,13 +2,13 @@
 --
 -- Main results: `zeros-long`, `answered`; `ground-of`.
 use mathlib.Core.Path.{_≡_, refl, sym, ap, ap₂, _∙_, subst}
-use mathlib.Core.List.{List, [], _∷_, _++_}
+use mathlib.Core.List.{List, [], _++_}
 use Prim.Native.Nat.{ℕ, zero, suc, _-_, _≤_}
 use native.Mathlib.Omega.{arith}
 use lib.ListN.{length, take, drop}
 use Rattle.theory.specs.Presentation.{Vector, identity}
 use Rattle.layout.specs.declared.View.{View}
-use Rattle.layout.specs.Header.{Seen, rankOf, bodiesAt}
+use Rattle.layout.specs.Header.{Seen, bodiesAt}
 use Rattle.layout.specs.Judged.{judged}
 use Rattle.placing.specs.Ready.{Ground}
 use Rattle.collector.proofs.Grounding.{ground-empty}

@@ -3,23 +3,22 @@
 -- Main results: `same-step`, `same-stop`, `same-end`; `says-left`, `says-right`, `says-agree`, `says-differ`; `found-agree`, `found-differ`,
 -- `found-stop`.
 use mathlib.Core.Path.{_≡_, refl, sym, ap, ap₂, _∙_, subst}
-use mathlib.Core.List.{List, [], _∷_}
+use mathlib.Core.List.{List, _∷_}
 use mathlib.Core.Bool.{Bool, true, false}
-use Prim.Native.Nat.{ℕ, zero, suc, _+_, _-_, _*_, _/_, _≤_, _<_}
+use Prim.Native.Nat.{ℕ, suc, _+_, _/_, _≤_, _<_}
 use native.Mathlib.Omega.{arith}
 use native.Mathlib.Numerals.{add-one}
 use lib.ListN.{length, getD, drop, drop-of-length-le}
 use lib.Seq.{drop-cons}
-use lib.Dec.{eqb}
 use borrow.Author.Tests.{eq-eqb, ne-eqb}
 use Rattle.theory.specs.Presentation.{Vector, identity}
 use Rattle.theory.specs.Overlaps.{Overlap, Among}
 use Rattle.layout.specs.Header.{rankOf}
 use Rattle.layout.specs.Judged.{judged}
 use Rattle.layout.specs.Relations.{presentation}
-use Rattle.slots.specs.Pieces.{Piece, AllWellFormed}
+use Rattle.slots.specs.Pieces.{Piece}
 use Rattle.collector.specs.declared.Answer.{Answer}
-use Rattle.collector.specs.Run.{Outcome, done, refused}
+use Rattle.collector.specs.Run.{Outcome, done}
 use Rattle.collector.specs.Running.{Tells, Answers}
 use Rattle.collector.proofs.Finished.{begun-refuses, tells-done, tells-refused}
 use Rattle.consistency.specs.declared.Side.{Side}

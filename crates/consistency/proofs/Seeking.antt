@@ -6,7 +6,7 @@
 use mathlib.Core.Path.{_≡_, refl, sym, ap, ap₂, _∙_, subst}
 use mathlib.Core.List.{List, [], _∷_, _++_, append-assoc}
 use mathlib.Core.Bool.{Bool, true, false}
-use Prim.Native.Nat.{ℕ, zero, suc, _+_, _-_, _*_, _/_, _≤_, _<_}
+use Prim.Native.Nat.{ℕ, suc, _+_, _-_, _/_, _≤_, _<_}
 use native.Mathlib.Omega.{arith}
 use lib.ListN.{length}
 use Rattle.theory.specs.Presentation.{Vector}
@@ -17,7 +17,7 @@ use Rattle.consistency.specs.declared.Family.the-variants.{Upper, Lower}
 use Rattle.layout.specs.Header.{rankOf}
 use Rattle.consistency.specs.declared.Verdict.{Verdict}
 use Rattle.consistency.specs.declared.Verdict.the-variants.{Pass, Differs, Stopped}
-use Rattle.consistency.specs.Check.{named, pairOf, Judgement, agree, differ, stop, judgement, Decision, passes, differs, stops, settling, decide, settled, Finds, Found}
+use Rattle.consistency.specs.Check.{named, pairOf, Decision, passes, differs, stops, decide, settled, Finds, Found}
 use Rattle.consistency.proofs.Deciding.{orElse, decide-append}
 
 -- The overlaps of the generators from a to n.

@@ -2,15 +2,15 @@
 -- theory's does.
 --
 -- Main results: `left-letters`, `right-letters`, `left-formed`, `right-formed`; `left-collects`, `right-collects`.
-use mathlib.Core.Path.{_≡_, refl, sym, ap, ap₂, _∙_, subst}
-use mathlib.Core.List.{List, [], _∷_, _++_, append-assoc, append-nil}
+use mathlib.Core.Path.{_≡_, refl, sym, ap, _∙_, subst}
+use mathlib.Core.List.{List, [], _∷_, _++_, append-nil}
 use mathlib.Core.Bool.{Bool, true, false}
-use Prim.Native.Nat.{ℕ, zero, suc, _+_, _-_, _*_, _≤_, _<_}
+use Prim.Native.Nat.{ℕ, _-_, _≤_, _<_}
 use native.Mathlib.Omega.{arith}
 use lib.ListN.{length, replicate}
 use lib.Dec.{ltb}
 use Rattle.theory.specs.Presentation.{Presentation, Word, Vector, Normal, Over, powerWord, identity}
-use Rattle.theory.specs.Placing.{collect, Collects}
+use Rattle.theory.specs.Placing.{collect}
 use Rattle.theory.specs.Overlaps.{Overlap, triple, upper, lower, single, Among, leftSide, rightSide}
 use Rattle.theory.proofs.Collecting.{whole, identity-normal, collects-to}
 use Rattle.theory.proofs.Joining.{sides-over}

@@ -1,13 +1,7 @@
 use borrow.Author.Needs.{needs}
-use borrow.Author.Tests.{lt-ltb, le-ltb, le-leb, lt-leb, eq-eqb, ne-eqb}
-use native.Mathlib.Omega.{arith}
-use mathlib.Core.Path.{_≡_, refl, sym, ap, _∙_}
-use mathlib.Core.List.{List, [], _∷_, _++_}
-use mathlib.Core.Bool.{Bool, true, false, cond, not, _&&_}
-use mathlib.Core.Logic.{⊎-elim}
-use Prim.Native.Nat.{ℕ, zero, suc, _+_, _-_, _*_, _/_, _%_, _≤_, _<_}
-use native.Mathlib.Numerals.{add-one}
-use lib.ListN.{length, getD, set, take, drop, length-set}
+use mathlib.Core.Path.{refl, sym, _∙_}
+use mathlib.Core.List.{_++_}
+use lib.ListN.{length}
 use denote.Ref.{now}
 use Rattle.theory.specs.Overlaps.{overlaps}
 use Rattle.layout.specs.Header.{rankOf}
@@ -16,34 +10,7 @@ use Rattle.consistency.specs.Check.{triplesOf, pairsOf, singlesOf}
 use Rattle.consistency.proofs.Seeking.{family-found, family-over, family-last}
 use Rattle.consistency.proofs.searching.search.Statement.{statement}
 use Rattle.consistency.proofs.searching.search.Tie as tie
-use Rattle.consistency.proofs.searching.search.Reads as reads
-use Rattle.consistency.proofs.searching.search.Lts as lts
-use Rattle.consistency.proofs.searching.search_pairs.Reads as search-pairs-reads
-use Rattle.consistency.proofs.searching.search_singles.Reads as search-singles-reads
-use Rattle.consistency.proofs.searching.search_triples.Reads as search-triples-reads
-use Rattle.consistency.proofs.searching.settles.Reads as settles-reads
 
--- src/searching.rt:174:9
-search-triples-requires : tie.Need-search-triples-requires
-search-triples-requires c κs = search needs
-
--- src/searching.rt:175:8
-settles-requires : tie.Need-settles-requires
-settles-requires c κs = search needs
-
--- src/searching.rt:176:9
-same-length : tie.Need-same-length
-same-length c = search needs
-
--- src/searching.rt:176:9
-same-length-2 : tie.Need-same-length-2
-same-length-2 c = search needs
-
--- src/searching.rt:176:9
-same-length-3 : tie.Need-same-length-3
-same-length-3 c = search needs
-
--- src/searching.rt:176:9
 returns : tie.Need-returns
 returns c =
     let start = c .before .before .before .before .before .before .before .before .before .before .before .before .before .before .before .before .before in
@@ -54,7 +21,6 @@ returns c =
     let t = c .before .before .before .before .before .before .before .before .search-triples in
     (t .ensures .0, family-found nums (a .budget) size (overlaps n) (triplesOf n) (pairsOf Upper n ++ (pairsOf Lower n ++ singlesOf n)) refl size refl (t .ensures .1) (sym (c .before .settles .ensures) ∙ c .if1 .taken))
 
--- src/searching.rt:178:9
 search-pairs-requires : tie.Need-search-pairs-requires
 search-pairs-requires c κs =
     let start = c .before .before .before .before .before .before .before .before .before .before .before .before .before .before .before .before .before .before .before .before in
@@ -65,23 +31,6 @@ search-pairs-requires c κs =
     let t = c .before .before .before .before .before .before .before .before .before .before .before .search-triples in
     (start .pre .0, (t .kept .1 .1 .1 .0 ∙ start .pre .1 .0, t .kept .1 .1 .1 .1 .0 ∙ start .pre .1 .1))
 
--- src/searching.rt:179:8
-settles-requires-2 : tie.Need-settles-requires-2
-settles-requires-2 c κs = search needs
-
--- src/searching.rt:180:9
-same-length-4 : tie.Need-same-length-4
-same-length-4 c = search needs
-
--- src/searching.rt:180:9
-same-length-5 : tie.Need-same-length-5
-same-length-5 c = search needs
-
--- src/searching.rt:180:9
-same-length-6 : tie.Need-same-length-6
-same-length-6 c = search needs
-
--- src/searching.rt:180:9
 returns-2 : tie.Need-returns-2
 returns-2 c =
     let start = c .before .before .before .before .before .before .before .before .before .before .before .before .before .before .before .before .before .before .before .before .before .before .before .before .before .before .before .before .before in
@@ -96,7 +45,6 @@ returns-2 c =
       family-found nums (a .budget) size (overlaps n) (pairsOf Upper n) (pairsOf Lower n ++ singlesOf n) e _ (t .ensures .0) (u .ensures .1) (sym (c .before .settles2 .ensures) ∙ c .if2 .taken),
     )
 
--- src/searching.rt:182:9
 search-pairs-requires-2 : tie.Need-search-pairs-requires-2
 search-pairs-requires-2 c κs =
     let start = c .before .before .before .before .before .before .before .before .before .before .before .before .before .before .before .before .before .before .before .before .before .before .before .before .before .before .before .before .before .before .before .before in
@@ -108,23 +56,6 @@ search-pairs-requires-2 c κs =
     let u = c .before .before .before .before .before .before .before .before .before .before .before .search-pairs in
     (start .pre .0, (u .kept .1 .1 .1 .1 .0 ∙ t .kept .1 .1 .1 .0 ∙ start .pre .1 .0, u .kept .1 .1 .1 .1 .1 .0 ∙ t .kept .1 .1 .1 .1 .0 ∙ start .pre .1 .1))
 
--- src/searching.rt:183:8
-settles-requires-3 : tie.Need-settles-requires-3
-settles-requires-3 c κs = search needs
-
--- src/searching.rt:184:9
-same-length-7 : tie.Need-same-length-7
-same-length-7 c = search needs
-
--- src/searching.rt:184:9
-same-length-8 : tie.Need-same-length-8
-same-length-8 c = search needs
-
--- src/searching.rt:184:9
-same-length-9 : tie.Need-same-length-9
-same-length-9 c = search needs
-
--- src/searching.rt:184:9
 returns-3 : tie.Need-returns-3
 returns-3 c =
     let start = c .before .before .before .before .before .before .before .before .before .before .before .before .before .before .before .before .before .before .before .before .before .before .before .before .before .before .before .before .before .before .before .before .before .before .before .before .before .before .before .before .before in
@@ -141,7 +72,6 @@ returns-3 c =
       family-found nums (a .budget) size (overlaps n) (pairsOf Lower n) (singlesOf n) g _ (u .ensures .0 ∙ t .ensures .0) (l .ensures .1) (sym (c .before .settles3 .ensures) ∙ c .if3 .taken),
     )
 
--- src/searching.rt:186:5
 search-singles-requires : tie.Need-search-singles-requires
 search-singles-requires c κs =
     let start = c .before .before .before .before .before .before .before .before .before .before .before .before .before .before .before .before .before .before .before .before .before .before .before .before .before .before .before .before .before .before .before .before .before .before .before .before .before .before .before .before .before .before .before .before in
@@ -154,7 +84,6 @@ search-singles-requires c κs =
     let l = c .before .before .before .before .before .before .before .before .before .before .before .search-pairs2 in
     (start .pre .0, (l .kept .1 .1 .1 .1 .0 ∙ u .kept .1 .1 .1 .1 .0 ∙ t .kept .1 .1 .1 .0 ∙ start .pre .1 .0, l .kept .1 .1 .1 .1 .1 .0 ∙ u .kept .1 .1 .1 .1 .1 .0 ∙ t .kept .1 .1 .1 .1 .0 ∙ start .pre .1 .1))
 
--- src/searching.rt:160:1
 same-length-10 : tie.Need-same-length-10
 same-length-10 c =
     let start = c .before .before .before .before .before .before .before .before .before .before .before .before .before .before .before .before .before .before .before .before .before .before .before .before .before .before .before .before .before .before .before .before .before .before .before .before .before .before .before .before .before .before .before .before .before .before .before .before .before .before .before in
@@ -168,7 +97,6 @@ same-length-10 c =
     let s = c .before .before .before .before .before .before .search-singles in
     s .kept .1 .1 .1 .0 ∙ l .kept .1 .1 .1 .1 .0 ∙ u .kept .1 .1 .1 .1 .0 ∙ t .kept .1 .1 .1 .0
 
--- src/searching.rt:160:1
 same-length-11 : tie.Need-same-length-11
 same-length-11 c =
     let start = c .before .before .before .before .before .before .before .before .before .before .before .before .before .before .before .before .before .before .before .before .before .before .before .before .before .before .before .before .before .before .before .before .before .before .before .before .before .before .before .before .before .before .before .before .before .before .before .before .before .before .before in
@@ -182,7 +110,6 @@ same-length-11 c =
     let s = c .before .before .before .before .before .before .search-singles in
     s .kept .1 .1 .1 .1 .0 ∙ l .kept .1 .1 .1 .1 .1 .0 ∙ u .kept .1 .1 .1 .1 .1 .0 ∙ t .kept .1 .1 .1 .1 .0
 
--- src/searching.rt:160:1
 same-length-12 : tie.Need-same-length-12
 same-length-12 c =
     let start = c .before .before .before .before .before .before .before .before .before .before .before .before .before .before .before .before .before .before .before .before .before .before .before .before .before .before .before .before .before .before .before .before .before .before .before .before .before .before .before .before .before .before .before .before .before .before .before .before .before .before .before in
@@ -196,7 +123,6 @@ same-length-12 c =
     let s = c .before .before .before .before .before .before .search-singles in
     s .ensures .0 ∙ l .ensures .0 ∙ u .ensures .0 ∙ t .ensures .0
 
--- src/searching.rt:160:1
 returns-4 : tie.Need-returns-4
 returns-4 c =
     let start = c .before .before .before .before .before .before .before .before .before .before .before .before .before .before .before .before .before .before .before .before .before .before .before .before .before .before .before .before .before .before .before .before .before .before .before .before .before .before .before .before .before .before .before .before .before .before .before .before .before .before .before in
@@ -219,23 +145,23 @@ pub search-spec : {M : Type 1} → statement M
 search-spec =
     tie.close
     (tie.spec
-    search-triples-requires
-    settles-requires
-    same-length
-    same-length-2
-    same-length-3
+    (λ c κs. search needs)
+    (λ c κs. search needs)
+    (λ c. search needs)
+    (λ c. search needs)
+    (λ c. search needs)
     returns
     search-pairs-requires
-    settles-requires-2
-    same-length-4
-    same-length-5
-    same-length-6
+    (λ c κs. search needs)
+    (λ c. search needs)
+    (λ c. search needs)
+    (λ c. search needs)
     returns-2
     search-pairs-requires-2
-    settles-requires-3
-    same-length-7
-    same-length-8
-    same-length-9
+    (λ c κs. search needs)
+    (λ c. search needs)
+    (λ c. search needs)
+    (λ c. search needs)
     returns-3
     search-singles-requires
     same-length-10

@@ -1,32 +1,20 @@
 use borrow.Author.Needs.{needs}
-use borrow.Author.Tests.{lt-ltb, le-ltb, le-leb, lt-leb, eq-eqb, ne-eqb}
 use native.Mathlib.Omega.{arith}
-use mathlib.Core.Path.{_≡_, refl, sym, ap, _∙_}
-use mathlib.Core.List.{List, [], _∷_, _++_}
-use mathlib.Core.Bool.{Bool, true, false, cond, not, _&&_}
-use mathlib.Core.Logic.{⊎-elim}
-use Prim.Native.Nat.{ℕ, zero, suc, _+_, _-_, _*_, _/_, _%_, _≤_, _<_}
-use native.Mathlib.Numerals.{add-one}
-use lib.ListN.{length, getD, set, take, drop, length-set}
+use mathlib.Core.Path.{sym, _∙_}
+use mathlib.Core.List.{[], _∷_, _++_}
+use Prim.Native.Nat.{_+_, _-_, _≤_, _<_}
+use lib.ListN.{length}
 use denote.Ref.{now}
-use mathlib.Core.List.{append-assoc}
-use Rattle.theory.specs.Overlaps.{triple, single}
 use Rattle.layout.specs.Header.{rankOf}
 use Rattle.layout.proofs.Accepted.{accepted}
-use Rattle.consistency.specs.Check.{triplesOf, pairOf, pairsOf, singlesOf}
-use Rattle.consistency.proofs.Seeking.{from, from-all, from-step, from-end, rows, open-row, open-inner, open-item, row-over, pair-among, Seeking, seek-start, seek-as, seek-over, seek-next, seek-found, seek-end}
-use mathlib.Core.List.{append-assoc}
-use Rattle.theory.specs.Overlaps.{triple, single}
+use Rattle.consistency.specs.Check.{pairOf, pairsOf}
+use Rattle.consistency.proofs.Seeking.{from, from-all, from-end, rows, open-row, open-item, row-over, pair-among, Seeking, seek-start, seek-as, seek-over, seek-next, seek-found, seek-end}
 use Rattle.layout.specs.Header.{rankOf}
 use Rattle.layout.proofs.Accepted.{accepted}
-use Rattle.consistency.specs.Check.{triplesOf, pairOf, pairsOf, singlesOf}
-use Rattle.consistency.proofs.Seeking.{from, from-all, from-step, from-end, rows, open-row, open-inner, open-item, row-over, pair-among, Seeking, seek-start, seek-as, seek-next, seek-found, seek-end}
+use Rattle.consistency.specs.Check.{pairOf, pairsOf}
+use Rattle.consistency.proofs.Seeking.{from, from-all, from-end, rows, open-row, open-item, row-over, pair-among, Seeking, seek-start, seek-as, seek-next, seek-found, seek-end}
 use Rattle.consistency.proofs.searching.search_pairs.Statement.{statement}
 use Rattle.consistency.proofs.searching.search_pairs.Tie as tie
-use Rattle.consistency.proofs.searching.search_pairs.Reads as reads
-use Rattle.consistency.proofs.searching.search_pairs.Lts as lts
-use Rattle.consistency.proofs.searching.settles.Reads as settles-reads
-use Rattle.consistency.proofs.searching.verdict_at.Reads as verdict-at-reads
 
 abbrev Inv-loop : tie.InvT-loop
 Inv-loop numbers view bodies family left₀ right₀ budget work₀ verdict₀ i j₀ left right work verdict j =
@@ -46,7 +34,6 @@ abbrev μ-search : tie.MeasureT-search
 μ-search numbers view bodies family left₀ right₀ budget work₀ verdict₀ i₀ left right work verdict i =
     rankOf numbers + 1 - i
 
--- src/searching.rt:115:5
 search-holds : tie.Need-search-holds Inv-loop μ-loop Inv-search μ-search
 search-holds c =
     let start = c .before .before .before .before .before in
@@ -57,11 +44,6 @@ search-holds c =
     let few = accepted nums (start .pre .0 .accepts) .measured .most in
     (seek-start (start .pre .1 .0) (start .pre .1 .1) (from-all n (rows n (λ x y. pairOf (a .family) x y ∷ []))), omega arith, omega arith)
 
--- src/searching.rt:116:21
-add-j : tie.Need-add-j Inv-loop μ-loop Inv-search μ-search
-add-j c = search needs
-
--- src/searching.rt:117:9
 loop-holds : tie.Need-loop-holds Inv-loop μ-loop Inv-search μ-search
 loop-holds c =
     let start = c .before .before .before .before .before .before .before .before in
@@ -74,7 +56,6 @@ loop-holds c =
     let t = c .if1 .taken in
     (seek-as (open-row n (λ x y. pairOf (a .family) x y ∷ []) (s .i) (omega (arith, seen, t))) (seek-over (sym (s .inv .0 .kept)) (s .inv .0)), s .inv .1, omega arith, omega (arith, seen, t), omega (arith, seen, t))
 
--- src/searching.rt:119:13
 verdict-at-requires : tie.Need-verdict-at-requires Inv-loop μ-loop Inv-search μ-search
 verdict-at-requires c κs =
     let start = c .before .before .before .before .before .before .before .before .before .before .before .before .before .before in
@@ -87,15 +68,6 @@ verdict-at-requires c κs =
     let t = c .before .before .before .if2 .taken in
     (start .pre .0, (pair-among nums (a .family) (c .before .before .before .before .before .before .before .before .search .i) (s .j) (s .inv .1) (s .inv .2) (omega (arith, seen, t)), (s .inv .0 .left-long, s .inv .0 .right-long)))
 
--- src/searching.rt:120:16
-settles-requires : tie.Need-settles-requires Inv-loop μ-loop Inv-search μ-search
-settles-requires c κs = search needs
-
--- src/searching.rt:123:13
-add-j-2 : tie.Need-add-j-2 Inv-loop μ-loop Inv-search μ-search
-add-j-2 c = search needs
-
--- src/searching.rt:117:9
 loop-less : tie.Need-loop-less Inv-loop μ-loop Inv-search μ-search
 loop-less c =
     let start = c .before .before .before .before .before .before .before .before .before .before .before .before .before .before .before .before .before .before .before .before .before .before .before in
@@ -109,7 +81,6 @@ loop-less c =
     let v = c .before .before .before .before .before .before .before .before .verdict-at in
     omega (arith, seen, t)
 
--- src/searching.rt:117:9
 loop-again : tie.Need-loop-again Inv-loop μ-loop Inv-search μ-search
 loop-again c =
     let start = c .before .before .before .before .before .before .before .before .before .before .before .before .before .before .before .before .before .before .before .before .before .before .before in
@@ -123,11 +94,6 @@ loop-again c =
     let v = c .before .before .before .before .before .before .before .before .verdict-at in
     (seek-next (seek-as (open-item n (λ y. pairOf (a .family) (c .before .before .before .before .before .before .before .before .before .before .before .before .before .before .before .before .before .search .i) y) (s .j) (from n (c .before .before .before .before .before .before .before .before .before .before .before .before .before .before .before .before .before .search .i + 1) (rows n (λ x y. pairOf (a .family) x y ∷ []))) (omega (arith, seen, t))) (s .inv .0)) (v .ensures .1) (sym (c .before .settles .ensures) ∙ c .if3 .left) (v .ensures .0) (v .kept .1 .1 .1 .1 .0) (v .kept .1 .1 .1 .1 .1 .0), s .inv .1, omega (arith, s .inv .2), s .inv .3, omega (arith, seen, t))
 
--- src/searching.rt:125:9
-add-i : tie.Need-add-i Inv-loop μ-loop Inv-search μ-search
-add-i c = search needs
-
--- src/searching.rt:115:5
 search-less : tie.Need-search-less Inv-loop μ-loop Inv-search μ-search
 search-less c =
     let start = c .before .before .before .before .before .before .before .before .before .before .before in
@@ -140,7 +106,6 @@ search-less c =
     let s = c .before .before .before .before .before .search in
     omega (arith, l .inv .3)
 
--- src/searching.rt:115:5
 search-again : tie.Need-search-again Inv-loop μ-loop Inv-search μ-search
 search-again c =
     let start = c .before .before .before .before .before .before .before .before .before .before .before in
@@ -154,7 +119,6 @@ search-again c =
     let t = c .if2 .left in
     (seek-as (row-over n (λ y. pairOf (a .family) (s .i) y ∷ []) (l .j) (from n (s .i + 1) (rows n (λ x y. pairOf (a .family) x y ∷ []))) (omega (arith, seen, t))) (seek-over (s .inv .0 .kept) (l .inv .0)), omega arith, omega (arith, l .inv .3))
 
--- src/searching.rt:96:1
 same-length : tie.Need-same-length Inv-loop μ-loop Inv-search μ-search
 same-length c =
     let start = c .before .before .before .before .before .before .before .before in
@@ -165,7 +129,6 @@ same-length c =
     let few = accepted nums (start .pre .0 .accepts) .measured .most in
     c .before .before .search .inv .0 .left-long ∙ sym (start .pre .1 .0)
 
--- src/searching.rt:96:1
 same-length-2 : tie.Need-same-length-2 Inv-loop μ-loop Inv-search μ-search
 same-length-2 c =
     let start = c .before .before .before .before .before .before .before .before in
@@ -176,7 +139,6 @@ same-length-2 c =
     let few = accepted nums (start .pre .0 .accepts) .measured .most in
     c .before .before .search .inv .0 .right-long ∙ sym (start .pre .1 .1)
 
--- src/searching.rt:96:1
 same-length-3 : tie.Need-same-length-3 Inv-loop μ-loop Inv-search μ-search
 same-length-3 c =
     let start = c .before .before .before .before .before .before .before .before in
@@ -187,7 +149,6 @@ same-length-3 c =
     let few = accepted nums (start .pre .0 .accepts) .measured .most in
     c .before .before .search .inv .0 .kept
 
--- src/searching.rt:96:1
 returns : tie.Need-returns Inv-loop μ-loop Inv-search μ-search
 returns c =
     let start = c .before .before .before .before .before .before .before .before in
@@ -200,7 +161,6 @@ returns c =
     let t = c .if1 .left in
     (s .inv .0 .kept, seek-end (seek-as (from-end n (rows n (λ x y. pairOf (a .family) x y ∷ [])) (s .i) (omega (arith, seen, t))) (s .inv .0)))
 
--- src/searching.rt:96:1
 same-length-4 : tie.Need-same-length-4 Inv-loop μ-loop Inv-search μ-search
 same-length-4 c =
     let start = c .before .before .before .before .before .before .before .before .before .before .before .before .before .before .before .before .before .before .before .before .before .before .before in
@@ -214,7 +174,6 @@ same-length-4 c =
     let v = c .before .before .before .before .before .before .before .before .verdict-at in
     v .kept .1 .1 .1 .1 .0 ∙ s .inv .0 .left-long ∙ sym (start .pre .1 .0)
 
--- src/searching.rt:96:1
 same-length-5 : tie.Need-same-length-5 Inv-loop μ-loop Inv-search μ-search
 same-length-5 c =
     let start = c .before .before .before .before .before .before .before .before .before .before .before .before .before .before .before .before .before .before .before .before .before .before .before in
@@ -228,7 +187,6 @@ same-length-5 c =
     let v = c .before .before .before .before .before .before .before .before .verdict-at in
     v .kept .1 .1 .1 .1 .1 .0 ∙ s .inv .0 .right-long ∙ sym (start .pre .1 .1)
 
--- src/searching.rt:96:1
 same-length-6 : tie.Need-same-length-6 Inv-loop μ-loop Inv-search μ-search
 same-length-6 c =
     let start = c .before .before .before .before .before .before .before .before .before .before .before .before .before .before .before .before .before .before .before .before .before .before .before in
@@ -243,7 +201,6 @@ same-length-6 c =
     let o = seek-over (c .before .before .before .before .before .before .before .before .before .before .before .before .before .before .before .before .before .search .inv .0 .kept) (s .inv .0) in
     v .ensures .0 ∙ o .kept
 
--- src/searching.rt:96:1
 returns-2 : tie.Need-returns-2 Inv-loop μ-loop Inv-search μ-search
 returns-2 c =
     let start = c .before .before .before .before .before .before .before .before .before .before .before .before .before .before .before .before .before .before .before .before .before .before .before in
@@ -267,14 +224,14 @@ search-pairs-spec =
     Inv-search
     μ-search
     search-holds
-    add-j
+    (λ c. search needs)
     loop-holds
     verdict-at-requires
-    settles-requires
-    add-j-2
+    (λ c κs. search needs)
+    (λ c. search needs)
     loop-less
     loop-again
-    add-i
+    (λ c. search needs)
     search-less
     search-again
     same-length

@@ -1,32 +1,22 @@
 use borrow.Author.Needs.{needs}
-use borrow.Author.Tests.{lt-ltb, le-ltb, le-leb, lt-leb, eq-eqb, ne-eqb}
 use native.Mathlib.Omega.{arith}
-use mathlib.Core.Path.{_≡_, refl, sym, ap, _∙_}
-use mathlib.Core.List.{List, [], _∷_, _++_}
-use mathlib.Core.Bool.{Bool, true, false, cond, not, _&&_}
-use mathlib.Core.Logic.{⊎-elim}
-use Prim.Native.Nat.{ℕ, zero, suc, _+_, _-_, _*_, _/_, _%_, _≤_, _<_}
-use native.Mathlib.Numerals.{add-one}
-use lib.ListN.{length, getD, set, take, drop, length-set}
+use mathlib.Core.Path.{sym, _∙_}
+use mathlib.Core.List.{[], _∷_}
+use Prim.Native.Nat.{_+_, _-_, _≤_}
+use lib.ListN.{length}
 use denote.Ref.{now}
-use mathlib.Core.List.{append-assoc}
-use Rattle.theory.specs.Overlaps.{triple, single}
+use Rattle.theory.specs.Overlaps.{single}
 use Rattle.layout.specs.Header.{rankOf}
 use Rattle.layout.proofs.Accepted.{accepted}
-use Rattle.consistency.specs.Check.{triplesOf, pairOf, pairsOf, singlesOf}
-use Rattle.consistency.proofs.Seeking.{from, from-all, from-step, from-end, rows, open-row, open-inner, open-item, row-over, pair-among, Seeking, seek-start, seek-as, seek-over, seek-next, seek-found, seek-end}
-use mathlib.Core.List.{append-assoc}
-use Rattle.theory.specs.Overlaps.{triple, single}
+use Rattle.consistency.specs.Check.{singlesOf}
+use Rattle.consistency.proofs.Seeking.{from, from-all, from-step, from-end, Seeking, seek-start, seek-as, seek-next, seek-found, seek-end}
+use Rattle.theory.specs.Overlaps.{single}
 use Rattle.layout.specs.Header.{rankOf}
 use Rattle.layout.proofs.Accepted.{accepted}
-use Rattle.consistency.specs.Check.{triplesOf, pairOf, pairsOf, singlesOf}
-use Rattle.consistency.proofs.Seeking.{from, from-all, from-step, from-end, rows, open-row, open-inner, open-item, row-over, pair-among, Seeking, seek-start, seek-as, seek-next, seek-found, seek-end}
+use Rattle.consistency.specs.Check.{singlesOf}
+use Rattle.consistency.proofs.Seeking.{from, from-all, from-step, from-end, Seeking, seek-start, seek-as, seek-next, seek-found, seek-end}
 use Rattle.consistency.proofs.searching.search_singles.Statement.{statement}
 use Rattle.consistency.proofs.searching.search_singles.Tie as tie
-use Rattle.consistency.proofs.searching.search_singles.Reads as reads
-use Rattle.consistency.proofs.searching.search_singles.Lts as lts
-use Rattle.consistency.proofs.searching.settles.Reads as settles-reads
-use Rattle.consistency.proofs.searching.verdict_at.Reads as verdict-at-reads
 
 abbrev Inv-search : tie.InvT-search
 Inv-search numbers view bodies left₀ right₀ budget work₀ verdict₀ i₀ left right work verdict i =
@@ -37,7 +27,6 @@ abbrev μ-search : tie.MeasureT-search
 μ-search numbers view bodies left₀ right₀ budget work₀ verdict₀ i₀ left right work verdict i =
     rankOf numbers + 1 - i
 
--- src/searching.rt:149:5
 search-holds : tie.Need-search-holds Inv-search μ-search
 search-holds c =
     let start = c .before .before .before .before .before in
@@ -48,7 +37,6 @@ search-holds c =
     let few = accepted nums (start .pre .0 .accepts) .measured .most in
     (seek-start (start .pre .1 .0) (start .pre .1 .1) (from-all n (λ x. single x ∷ [])), omega arith, omega arith)
 
--- src/searching.rt:150:9
 verdict-at-requires : tie.Need-verdict-at-requires Inv-search μ-search
 verdict-at-requires c κs =
     let start = c .before .before .before .before .before .before .before .before .before .before .before in
@@ -61,15 +49,6 @@ verdict-at-requires c κs =
     let t = c .before .before .before .if1 .taken in
     (start .pre .0, ((s .inv .1, omega (arith, seen, t)), (s .inv .0 .left-long, s .inv .0 .right-long)))
 
--- src/searching.rt:151:12
-settles-requires : tie.Need-settles-requires Inv-search μ-search
-settles-requires c κs = search needs
-
--- src/searching.rt:154:9
-add-i : tie.Need-add-i Inv-search μ-search
-add-i c = search needs
-
--- src/searching.rt:149:5
 search-less : tie.Need-search-less Inv-search μ-search
 search-less c =
     let start = c .before .before .before .before .before .before .before .before .before .before .before .before .before .before .before .before .before .before .before .before in
@@ -83,7 +62,6 @@ search-less c =
     let v = c .before .before .before .before .before .before .before .before .verdict-at in
     omega (arith, seen, t)
 
--- src/searching.rt:149:5
 search-again : tie.Need-search-again Inv-search μ-search
 search-again c =
     let start = c .before .before .before .before .before .before .before .before .before .before .before .before .before .before .before .before .before .before .before .before in
@@ -97,7 +75,6 @@ search-again c =
     let v = c .before .before .before .before .before .before .before .before .verdict-at in
     (seek-next (seek-as (from-step n (λ x. single x ∷ []) (s .i) (omega (arith, seen, t))) (s .inv .0)) (v .ensures .1) (sym (c .before .settles .ensures) ∙ c .if2 .left) (v .ensures .0) (v .kept .1 .1 .1 .1 .0) (v .kept .1 .1 .1 .1 .1 .0), omega arith, omega (arith, seen, t))
 
--- src/searching.rt:131:1
 same-length : tie.Need-same-length Inv-search μ-search
 same-length c =
     let start = c .before .before .before .before .before .before .before .before in
@@ -108,7 +85,6 @@ same-length c =
     let few = accepted nums (start .pre .0 .accepts) .measured .most in
     c .before .before .search .inv .0 .left-long ∙ sym (start .pre .1 .0)
 
--- src/searching.rt:131:1
 same-length-2 : tie.Need-same-length-2 Inv-search μ-search
 same-length-2 c =
     let start = c .before .before .before .before .before .before .before .before in
@@ -119,7 +95,6 @@ same-length-2 c =
     let few = accepted nums (start .pre .0 .accepts) .measured .most in
     c .before .before .search .inv .0 .right-long ∙ sym (start .pre .1 .1)
 
--- src/searching.rt:131:1
 same-length-3 : tie.Need-same-length-3 Inv-search μ-search
 same-length-3 c =
     let start = c .before .before .before .before .before .before .before .before in
@@ -130,7 +105,6 @@ same-length-3 c =
     let few = accepted nums (start .pre .0 .accepts) .measured .most in
     c .before .before .search .inv .0 .kept
 
--- src/searching.rt:131:1
 returns : tie.Need-returns Inv-search μ-search
 returns c =
     let start = c .before .before .before .before .before .before .before .before in
@@ -143,7 +117,6 @@ returns c =
     let t = c .if1 .left in
     (s .inv .0 .kept, seek-end (seek-as (from-end n (λ x. single x ∷ []) (s .i) (omega (arith, seen, t))) (s .inv .0)))
 
--- src/searching.rt:131:1
 same-length-4 : tie.Need-same-length-4 Inv-search μ-search
 same-length-4 c =
     let start = c .before .before .before .before .before .before .before .before .before .before .before .before .before .before .before .before .before .before .before .before in
@@ -157,7 +130,6 @@ same-length-4 c =
     let v = c .before .before .before .before .before .before .before .before .verdict-at in
     v .kept .1 .1 .1 .1 .0 ∙ s .inv .0 .left-long ∙ sym (start .pre .1 .0)
 
--- src/searching.rt:131:1
 same-length-5 : tie.Need-same-length-5 Inv-search μ-search
 same-length-5 c =
     let start = c .before .before .before .before .before .before .before .before .before .before .before .before .before .before .before .before .before .before .before .before in
@@ -171,7 +143,6 @@ same-length-5 c =
     let v = c .before .before .before .before .before .before .before .before .verdict-at in
     v .kept .1 .1 .1 .1 .1 .0 ∙ s .inv .0 .right-long ∙ sym (start .pre .1 .1)
 
--- src/searching.rt:131:1
 same-length-6 : tie.Need-same-length-6 Inv-search μ-search
 same-length-6 c =
     let start = c .before .before .before .before .before .before .before .before .before .before .before .before .before .before .before .before .before .before .before .before in
@@ -186,7 +157,6 @@ same-length-6 c =
     let o = s .inv .0 in
     v .ensures .0 ∙ o .kept
 
--- src/searching.rt:131:1
 returns-2 : tie.Need-returns-2 Inv-search μ-search
 returns-2 c =
     let start = c .before .before .before .before .before .before .before .before .before .before .before .before .before .before .before .before .before .before .before .before in
@@ -209,8 +179,8 @@ search-singles-spec =
     μ-search
     search-holds
     verdict-at-requires
-    settles-requires
-    add-i
+    (λ c κs. search needs)
+    (λ c. search needs)
     search-less
     search-again
     same-length

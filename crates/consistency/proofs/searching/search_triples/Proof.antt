@@ -1,32 +1,22 @@
 use borrow.Author.Needs.{needs}
-use borrow.Author.Tests.{lt-ltb, le-ltb, le-leb, lt-leb, eq-eqb, ne-eqb}
 use native.Mathlib.Omega.{arith}
-use mathlib.Core.Path.{_≡_, refl, sym, ap, _∙_}
-use mathlib.Core.List.{List, [], _∷_, _++_}
-use mathlib.Core.Bool.{Bool, true, false, cond, not, _&&_}
-use mathlib.Core.Logic.{⊎-elim}
-use Prim.Native.Nat.{ℕ, zero, suc, _+_, _-_, _*_, _/_, _%_, _≤_, _<_}
-use native.Mathlib.Numerals.{add-one}
-use lib.ListN.{length, getD, set, take, drop, length-set}
+use mathlib.Core.Path.{sym, _∙_}
+use mathlib.Core.List.{[], _∷_, _++_}
+use Prim.Native.Nat.{_+_, _-_, _≤_, _<_}
+use lib.ListN.{length}
 use denote.Ref.{now}
-use mathlib.Core.List.{append-assoc}
-use Rattle.theory.specs.Overlaps.{triple, single}
+use Rattle.theory.specs.Overlaps.{triple}
 use Rattle.layout.specs.Header.{rankOf}
 use Rattle.layout.proofs.Accepted.{accepted}
-use Rattle.consistency.specs.Check.{triplesOf, pairOf, pairsOf, singlesOf}
-use Rattle.consistency.proofs.Seeking.{from, from-all, from-step, from-end, rows, open-row, open-inner, open-item, row-over, pair-among, Seeking, seek-start, seek-as, seek-over, seek-next, seek-found, seek-end}
-use mathlib.Core.List.{append-assoc}
-use Rattle.theory.specs.Overlaps.{triple, single}
+use Rattle.consistency.specs.Check.{triplesOf}
+use Rattle.consistency.proofs.Seeking.{from, from-all, from-end, rows, open-row, open-inner, open-item, row-over, Seeking, seek-start, seek-as, seek-over, seek-next, seek-found, seek-end}
+use Rattle.theory.specs.Overlaps.{triple}
 use Rattle.layout.specs.Header.{rankOf}
 use Rattle.layout.proofs.Accepted.{accepted}
-use Rattle.consistency.specs.Check.{triplesOf, pairOf, pairsOf, singlesOf}
-use Rattle.consistency.proofs.Seeking.{from, from-all, from-step, from-end, rows, open-row, open-inner, open-item, row-over, pair-among, Seeking, seek-start, seek-as, seek-next, seek-found, seek-end}
+use Rattle.consistency.specs.Check.{triplesOf}
+use Rattle.consistency.proofs.Seeking.{from, from-all, from-end, rows, open-row, open-inner, open-item, row-over, Seeking, seek-start, seek-as, seek-next, seek-found, seek-end}
 use Rattle.consistency.proofs.searching.search_triples.Statement.{statement}
 use Rattle.consistency.proofs.searching.search_triples.Tie as tie
-use Rattle.consistency.proofs.searching.search_triples.Reads as reads
-use Rattle.consistency.proofs.searching.search_triples.Lts as lts
-use Rattle.consistency.proofs.searching.settles.Reads as settles-reads
-use Rattle.consistency.proofs.searching.verdict_at.Reads as verdict-at-reads
 
 abbrev Inv-loop2 : tie.InvT-loop2
 Inv-loop2 numbers view bodies left₀ right₀ budget work₀ verdict₀ i j k₀ left right work verdict k =
@@ -55,7 +45,6 @@ abbrev μ-search : tie.MeasureT-search
 μ-search numbers view bodies left₀ right₀ budget work₀ verdict₀ i₀ left right work verdict i =
     rankOf numbers + 1 - i
 
--- src/searching.rt:76:5
 search-holds : tie.Need-search-holds Inv-loop2 μ-loop2 Inv-loop μ-loop Inv-search μ-search
 search-holds c =
     let start = c .before .before .before .before .before in
@@ -66,11 +55,6 @@ search-holds c =
     let few = accepted nums (start .pre .0 .accepts) .measured .most in
     (seek-start (start .pre .1 .0) (start .pre .1 .1) (from-all n (rows n (λ x. rows n (λ y z. triple x y z ∷ [])))), omega arith, omega arith)
 
--- src/searching.rt:77:21
-add-j : tie.Need-add-j Inv-loop2 μ-loop2 Inv-loop μ-loop Inv-search μ-search
-add-j c = search needs
-
--- src/searching.rt:78:9
 loop-holds : tie.Need-loop-holds Inv-loop2 μ-loop2 Inv-loop μ-loop Inv-search μ-search
 loop-holds c =
     let start = c .before .before .before .before .before .before .before .before in
@@ -83,11 +67,6 @@ loop-holds c =
     let t = c .if1 .taken in
     (seek-as (open-row n (λ x. rows n (λ y z. triple x y z ∷ [])) (s .i) (omega (arith, seen, t))) (seek-over (sym (s .inv .0 .kept)) (s .inv .0)), s .inv .1, omega arith, omega (arith, seen, t), omega (arith, seen, t))
 
--- src/searching.rt:79:25
-add-k : tie.Need-add-k Inv-loop2 μ-loop2 Inv-loop μ-loop Inv-search μ-search
-add-k c = search needs
-
--- src/searching.rt:80:13
 loop2-holds : tie.Need-loop2-holds Inv-loop2 μ-loop2 Inv-loop μ-loop Inv-search μ-search
 loop2-holds c =
     let start = c .before .before .before .before .before .before .before .before .before .before .before in
@@ -101,7 +80,6 @@ loop2-holds c =
     let t = c .if2 .taken in
     (seek-as (open-inner n (λ y z. triple (s .i) y z ∷ []) (l .j) (from n (s .i + 1) (rows n (λ x. rows n (λ y z. triple x y z ∷ [])))) (omega (arith, seen, t))) (seek-over (sym (l .inv .0 .kept)) (l .inv .0)), l .inv .1, l .inv .2, omega arith, omega (arith, seen, t), omega (arith, seen, t))
 
--- src/searching.rt:82:17
 verdict-at-requires :
     tie.Need-verdict-at-requires Inv-loop2 μ-loop2 Inv-loop μ-loop Inv-search μ-search
 verdict-at-requires c κs =
@@ -115,11 +93,6 @@ verdict-at-requires c κs =
     let t = c .before .before .before .if3 .taken in
     (start .pre .0, ((s .inv .1, s .inv .2, s .inv .3, omega (arith, seen, t)), (s .inv .0 .left-long, s .inv .0 .right-long)))
 
--- src/searching.rt:83:20
-settles-requires : tie.Need-settles-requires Inv-loop2 μ-loop2 Inv-loop μ-loop Inv-search μ-search
-settles-requires c κs = search needs
-
--- src/searching.rt:86:17
 add-k-2 : tie.Need-add-k-2 Inv-loop2 μ-loop2 Inv-loop μ-loop Inv-search μ-search
 add-k-2 c =
     let start = c .before .before .before .before .before .before .before .before .before .before .before .before .before .before .before .before .before .before .before .before .before .before .before .before .before .before in
@@ -132,7 +105,6 @@ add-k-2 c =
     let t = c .before .before .before .before .before .before .before .before .before .before .before .before .if3 .taken in
     omega (arith, seen, few, t)
 
--- src/searching.rt:80:13
 loop2-less : tie.Need-loop2-less Inv-loop2 μ-loop2 Inv-loop μ-loop Inv-search μ-search
 loop2-less c =
     let start = c .before .before .before .before .before .before .before .before .before .before .before .before .before .before .before .before .before .before .before .before .before .before .before .before .before .before in
@@ -146,7 +118,6 @@ loop2-less c =
     let v = c .before .before .before .before .before .before .before .before .verdict-at in
     omega (arith, seen, t)
 
--- src/searching.rt:80:13
 loop2-again : tie.Need-loop2-again Inv-loop2 μ-loop2 Inv-loop μ-loop Inv-search μ-search
 loop2-again c =
     let start = c .before .before .before .before .before .before .before .before .before .before .before .before .before .before .before .before .before .before .before .before .before .before .before .before .before .before in
@@ -160,11 +131,6 @@ loop2-again c =
     let v = c .before .before .before .before .before .before .before .before .verdict-at in
     (seek-next (seek-as (open-item n (λ z. triple (c .before .before .before .before .before .before .before .before .before .before .before .before .before .before .before .before .before .before .before .before .search .i) (c .before .before .before .before .before .before .before .before .before .before .before .before .before .before .before .before .before .loop .j) z) (s .k) (from n (c .before .before .before .before .before .before .before .before .before .before .before .before .before .before .before .before .before .loop .j + 1) (rows n (λ y z. triple (c .before .before .before .before .before .before .before .before .before .before .before .before .before .before .before .before .before .before .before .before .search .i) y z ∷ [])) ++ from n (c .before .before .before .before .before .before .before .before .before .before .before .before .before .before .before .before .before .before .before .before .search .i + 1) (rows n (λ x. rows n (λ y z. triple x y z ∷ [])))) (omega (arith, seen, t))) (s .inv .0)) (v .ensures .1) (sym (c .before .settles .ensures) ∙ c .if4 .left) (v .ensures .0) (v .kept .1 .1 .1 .1 .0) (v .kept .1 .1 .1 .1 .1 .0), s .inv .1, s .inv .2, omega (arith, s .inv .3), s .inv .4, omega (arith, seen, t))
 
--- src/searching.rt:88:13
-add-j-2 : tie.Need-add-j-2 Inv-loop2 μ-loop2 Inv-loop μ-loop Inv-search μ-search
-add-j-2 c = search needs
-
--- src/searching.rt:78:9
 loop-less : tie.Need-loop-less Inv-loop2 μ-loop2 Inv-loop μ-loop Inv-search μ-search
 loop-less c =
     let start = c .before .before .before .before .before .before .before .before .before .before .before .before .before .before in
@@ -177,7 +143,6 @@ loop-less c =
     let m = c .before .before .loop2 in
     omega (arith, m .inv .4)
 
--- src/searching.rt:78:9
 loop-again : tie.Need-loop-again Inv-loop2 μ-loop2 Inv-loop μ-loop Inv-search μ-search
 loop-again c =
     let start = c .before .before .before .before .before .before .before .before .before .before .before .before .before .before in
@@ -192,11 +157,6 @@ loop-again c =
     let t = c .if3 .left in
     (seek-as (row-over n (λ z. triple (s .i) (l .j) z ∷ []) (m .k) (from n (l .j + 1) (rows n (λ y z. triple (s .i) y z ∷ [])) ++ from n (s .i + 1) (rows n (λ x. rows n (λ y z. triple x y z ∷ [])))) (omega (arith, seen, t))) (seek-over (l .inv .0 .kept) (m .inv .0)), l .inv .1, omega (arith, l .inv .2), l .inv .3, omega (arith, m .inv .4))
 
--- src/searching.rt:90:9
-add-i : tie.Need-add-i Inv-loop2 μ-loop2 Inv-loop μ-loop Inv-search μ-search
-add-i c = search needs
-
--- src/searching.rt:76:5
 search-less : tie.Need-search-less Inv-loop2 μ-loop2 Inv-loop μ-loop Inv-search μ-search
 search-less c =
     let start = c .before .before .before .before .before .before .before .before .before .before .before in
@@ -209,7 +169,6 @@ search-less c =
     let s = c .before .before .before .before .before .search in
     omega (arith, l .inv .3)
 
--- src/searching.rt:76:5
 search-again : tie.Need-search-again Inv-loop2 μ-loop2 Inv-loop μ-loop Inv-search μ-search
 search-again c =
     let start = c .before .before .before .before .before .before .before .before .before .before .before in
@@ -223,7 +182,6 @@ search-again c =
     let t = c .if2 .left in
     (seek-as (row-over n (rows n (λ y z. triple (s .i) y z ∷ [])) (l .j) (from n (s .i + 1) (rows n (λ x. rows n (λ y z. triple x y z ∷ [])))) (omega (arith, seen, t))) (seek-over (s .inv .0 .kept) (l .inv .0)), omega arith, omega (arith, l .inv .3))
 
--- src/searching.rt:58:1
 same-length : tie.Need-same-length Inv-loop2 μ-loop2 Inv-loop μ-loop Inv-search μ-search
 same-length c =
     let start = c .before .before .before .before .before .before .before .before in
@@ -234,7 +192,6 @@ same-length c =
     let few = accepted nums (start .pre .0 .accepts) .measured .most in
     c .before .before .search .inv .0 .left-long ∙ sym (start .pre .1 .0)
 
--- src/searching.rt:58:1
 same-length-2 : tie.Need-same-length-2 Inv-loop2 μ-loop2 Inv-loop μ-loop Inv-search μ-search
 same-length-2 c =
     let start = c .before .before .before .before .before .before .before .before in
@@ -245,7 +202,6 @@ same-length-2 c =
     let few = accepted nums (start .pre .0 .accepts) .measured .most in
     c .before .before .search .inv .0 .right-long ∙ sym (start .pre .1 .1)
 
--- src/searching.rt:58:1
 same-length-3 : tie.Need-same-length-3 Inv-loop2 μ-loop2 Inv-loop μ-loop Inv-search μ-search
 same-length-3 c =
     let start = c .before .before .before .before .before .before .before .before in
@@ -256,7 +212,6 @@ same-length-3 c =
     let few = accepted nums (start .pre .0 .accepts) .measured .most in
     c .before .before .search .inv .0 .kept
 
--- src/searching.rt:58:1
 returns : tie.Need-returns Inv-loop2 μ-loop2 Inv-loop μ-loop Inv-search μ-search
 returns c =
     let start = c .before .before .before .before .before .before .before .before in
@@ -269,7 +224,6 @@ returns c =
     let t = c .if1 .left in
     (s .inv .0 .kept, seek-end (seek-as (from-end n (rows n (λ x. rows n (λ y z. triple x y z ∷ []))) (s .i) (omega (arith, seen, t))) (s .inv .0)))
 
--- src/searching.rt:58:1
 same-length-4 : tie.Need-same-length-4 Inv-loop2 μ-loop2 Inv-loop μ-loop Inv-search μ-search
 same-length-4 c =
     let start = c .before .before .before .before .before .before .before .before .before .before .before .before .before .before .before .before .before .before .before .before .before .before .before .before .before .before in
@@ -283,7 +237,6 @@ same-length-4 c =
     let v = c .before .before .before .before .before .before .before .before .verdict-at in
     v .kept .1 .1 .1 .1 .0 ∙ s .inv .0 .left-long ∙ sym (start .pre .1 .0)
 
--- src/searching.rt:58:1
 same-length-5 : tie.Need-same-length-5 Inv-loop2 μ-loop2 Inv-loop μ-loop Inv-search μ-search
 same-length-5 c =
     let start = c .before .before .before .before .before .before .before .before .before .before .before .before .before .before .before .before .before .before .before .before .before .before .before .before .before .before in
@@ -297,7 +250,6 @@ same-length-5 c =
     let v = c .before .before .before .before .before .before .before .before .verdict-at in
     v .kept .1 .1 .1 .1 .1 .0 ∙ s .inv .0 .right-long ∙ sym (start .pre .1 .1)
 
--- src/searching.rt:58:1
 same-length-6 : tie.Need-same-length-6 Inv-loop2 μ-loop2 Inv-loop μ-loop Inv-search μ-search
 same-length-6 c =
     let start = c .before .before .before .before .before .before .before .before .before .before .before .before .before .before .before .before .before .before .before .before .before .before .before .before .before .before in
@@ -312,7 +264,6 @@ same-length-6 c =
     let o = seek-over (c .before .before .before .before .before .before .before .before .before .before .before .before .before .before .before .before .before .before .before .before .search .inv .0 .kept) (seek-over (c .before .before .before .before .before .before .before .before .before .before .before .before .before .before .before .before .before .loop .inv .0 .kept) (s .inv .0)) in
     v .ensures .0 ∙ o .kept
 
--- src/searching.rt:58:1
 returns-2 : tie.Need-returns-2 Inv-loop2 μ-loop2 Inv-loop μ-loop Inv-search μ-search
 returns-2 c =
     let start = c .before .before .before .before .before .before .before .before .before .before .before .before .before .before .before .before .before .before .before .before .before .before .before .before .before .before in
@@ -338,19 +289,19 @@ search-triples-spec =
     Inv-search
     μ-search
     search-holds
-    add-j
+    (λ c. search needs)
     loop-holds
-    add-k
+    (λ c. search needs)
     loop2-holds
     verdict-at-requires
-    settles-requires
+    (λ c κs. search needs)
     add-k-2
     loop2-less
     loop2-again
-    add-j-2
+    (λ c. search needs)
     loop-less
     loop-again
-    add-i
+    (λ c. search needs)
     search-less
     search-again
     same-length

@@ -1,48 +1,14 @@
 use borrow.Author.Needs.{needs}
-use borrow.Author.Tests.{lt-ltb, le-ltb, le-leb, lt-leb, eq-eqb, ne-eqb}
 use native.Mathlib.Omega.{arith}
-use mathlib.Core.Path.{_≡_, refl, sym, ap, _∙_}
-use mathlib.Core.List.{List, [], _∷_, _++_}
-use mathlib.Core.Bool.{Bool, true, false, cond, not, _&&_}
-use mathlib.Core.Logic.{⊎-elim}
-use Prim.Native.Nat.{ℕ, zero, suc, _+_, _-_, _*_, _/_, _%_, _≤_, _<_}
-use native.Mathlib.Numerals.{add-one}
-use lib.ListN.{length, getD, set, take, drop, length-set}
+use mathlib.Core.Path.{_∙_}
+use mathlib.Core.List.{[]}
+use lib.ListN.{drop}
 use denote.Ref.{now}
 use Rattle.layout.specs.Header.{rankOf, bodiesAt}
 use Rattle.consistency.proofs.Laying.{laid-none}
 use Rattle.consistency.proofs.sides.put_side.Statement.{statement}
 use Rattle.consistency.proofs.sides.put_side.Tie as tie
-use Rattle.consistency.proofs.sides.put_side.Reads as reads
-use Rattle.consistency.proofs.sides.put_side.Lts as lts
-use Rattle.consistency.proofs.sides.put_part.Reads as put-part-reads
-use Rattle.consistency.proofs.sides.put_word.Reads as put-word-reads
 
--- src/sides.rt:68:9
-put-part-requires : tie.Need-put-part-requires
-put-part-requires c κs = search needs
-
--- src/sides.rt:69:9
-put-word-requires : tie.Need-put-word-requires
-put-word-requires c κs = search needs
-
--- src/sides.rt:70:9
-put-part-requires-2 : tie.Need-put-part-requires-2
-put-part-requires-2 c κs = search needs
-
--- src/sides.rt:71:9
-put-part-requires-3 : tie.Need-put-part-requires-3
-put-part-requires-3 c κs = search needs
-
--- src/sides.rt:72:5
-put-part-requires-4 : tie.Need-put-part-requires-4
-put-part-requires-4 c κs = search needs
-
--- src/sides.rt:59:1
-same-length : tie.Need-same-length
-same-length c = search needs
-
--- src/sides.rt:59:1
 returns : tie.Need-returns
 returns c =
     let start = c .before .before .before .before .before .before .before .before .before .before .before .before .before .before .before .before .before .before .before .before .before .before in
@@ -66,10 +32,10 @@ pub put-side-spec : {M : Type 1} → statement M
 put-side-spec =
     tie.close
     (tie.spec
-    put-part-requires
-    put-word-requires
-    put-part-requires-2
-    put-part-requires-3
-    put-part-requires-4
-    same-length
+    (λ c κs. search needs)
+    (λ c κs. search needs)
+    (λ c κs. search needs)
+    (λ c κs. search needs)
+    (λ c κs. search needs)
+    (λ c. search needs)
     returns)

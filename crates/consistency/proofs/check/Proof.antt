@@ -1,3 +1,5 @@
+-- `check` meets its contract, `checkOf` and `workAfter`: numbers that are refused are answered with their number and the workspace is left alone; of the others `check_accepted`
+-- says the rest.
 use borrow.Author.Needs.{needs}
 use mathlib.Core.Path.{_≡_, sym, ap, _∙_}
 use Prim.Native.Nat.{_/_}

@@ -1,3 +1,4 @@
+-- `check_accepted` meets its contract: n entries of each array are lent to the search, and the places past them are 0, as they were made (proofs/Padding).
 use borrow.Author.Needs.{needs}
 use native.Mathlib.Omega.{arith}
 use mathlib.Core.Path.{sym, _∙_}

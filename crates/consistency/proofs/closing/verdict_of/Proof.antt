@@ -1,3 +1,5 @@
+-- `verdict_of` meets its contract: the verdict is that of the search, the workspace is cleared, and both vectors are blanked unless the verdict is DIFFERS (proofs/Sayings,
+-- `found-verdict`, `found-kept`, `found-blank`).
 use borrow.Author.Needs.{needs}
 use mathlib.Core.Path.{sym, ap, _∙_}
 use Prim.Native.Nat.{ℕ}

@@ -1,3 +1,4 @@
+-- `judge_overlap` meets its contract: the left side is collected, then the right one, and the two vectors are compared. A law of proofs/Sayings for each of the four ways out.
 use borrow.Author.Needs.{needs}
 use mathlib.Core.Path.{sym, _∙_}
 use denote.Ref.{now}

@@ -1,3 +1,4 @@
+-- `same` meets its contract. The invariant: what is left of the two vectors is the same exactly if the whole vectors are.
 use borrow.Author.Needs.{needs}
 use native.Mathlib.Omega.{arith}
 use mathlib.Core.Path.{_≡_, refl, sym, _∙_}

@@ -1,3 +1,5 @@
+-- `search` meets its contract: the four families, one after the other. A family that settles the verdict settles it for all overlaps (`family-found`); after one that does
+-- not, the families behind it are left to decide (`family-over`, `family-last`; proofs/Seeking).
 use borrow.Author.Needs.{needs}
 use mathlib.Core.Path.{refl, sym, _∙_}
 use mathlib.Core.List.{_++_}

@@ -1,3 +1,5 @@
+-- `search_pairs` meets its contract. The invariant of the inner loop (`Seeking`, proofs/Seeking): nothing is settled yet, and left to decide are the pairs of x_i from x_j on and
+-- those of the generators after x_i; of the outer one, all pairs from x_i on. The labelled break leaves both with the verdict that was found (`seek-found`).
 use borrow.Author.Needs.{needs}
 use native.Mathlib.Omega.{arith}
 use mathlib.Core.Path.{sym, _∙_}
@@ -9,10 +11,6 @@ use Rattle.layout.specs.Header.{rankOf}
 use Rattle.layout.proofs.Accepted.{accepted}
 use Rattle.consistency.specs.Check.{pairOf, pairsOf}
 use Rattle.consistency.proofs.Seeking.{from, from-all, from-end, rows, open-row, open-item, row-over, pair-among, Seeking, seek-start, seek-as, seek-over, seek-next, seek-found, seek-end}
-use Rattle.layout.specs.Header.{rankOf}
-use Rattle.layout.proofs.Accepted.{accepted}
-use Rattle.consistency.specs.Check.{pairOf, pairsOf}
-use Rattle.consistency.proofs.Seeking.{from, from-all, from-end, rows, open-row, open-item, row-over, pair-among, Seeking, seek-start, seek-as, seek-next, seek-found, seek-end}
 use Rattle.consistency.proofs.searching.search_pairs.Statement.{statement}
 use Rattle.consistency.proofs.searching.search_pairs.Tie as tie
 
@@ -164,26 +162,14 @@ returns c =
 same-length-4 : tie.Need-same-length-4 Inv-loop μ-loop Inv-search μ-search
 same-length-4 c =
     let start = c .before .before .before .before .before .before .before .before .before .before .before .before .before .before .before .before .before .before .before .before .before .before .before in
-    let a = start .args in
-    let nums = now (a .numbers) in
-    let n = rankOf nums in
-    let seen = start .pre .0 .seen .rank in
-    let few = accepted nums (start .pre .0 .accepts) .measured .most in
     let s = c .before .before .before .before .before .before .before .before .before .before .before .before .before .before .loop in
-    let t = c .before .before .before .before .before .before .before .before .before .before .before .before .if2 .taken in
     let v = c .before .before .before .before .before .before .before .before .verdict-at in
     v .kept .1 .1 .1 .1 .0 ∙ s .inv .0 .left-long ∙ sym (start .pre .1 .0)
 
 same-length-5 : tie.Need-same-length-5 Inv-loop μ-loop Inv-search μ-search
 same-length-5 c =
     let start = c .before .before .before .before .before .before .before .before .before .before .before .before .before .before .before .before .before .before .before .before .before .before .before in
-    let a = start .args in
-    let nums = now (a .numbers) in
-    let n = rankOf nums in
-    let seen = start .pre .0 .seen .rank in
-    let few = accepted nums (start .pre .0 .accepts) .measured .most in
     let s = c .before .before .before .before .before .before .before .before .before .before .before .before .before .before .loop in
-    let t = c .before .before .before .before .before .before .before .before .before .before .before .before .if2 .taken in
     let v = c .before .before .before .before .before .before .before .before .verdict-at in
     v .kept .1 .1 .1 .1 .1 .0 ∙ s .inv .0 .right-long ∙ sym (start .pre .1 .1)
 

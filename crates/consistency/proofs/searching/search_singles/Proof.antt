@@ -1,3 +1,4 @@
+-- `search_singles` meets its contract. The invariant (`Seeking`, proofs/Seeking): nothing is settled yet, and the overlaps from x_i on are left to decide.
 use borrow.Author.Needs.{needs}
 use native.Mathlib.Omega.{arith}
 use mathlib.Core.Path.{sym, _∙_}
@@ -5,11 +6,6 @@ use mathlib.Core.List.{[], _∷_}
 use Prim.Native.Nat.{_+_, _-_, _≤_}
 use lib.ListN.{length}
 use denote.Ref.{now}
-use Rattle.theory.specs.Overlaps.{single}
-use Rattle.layout.specs.Header.{rankOf}
-use Rattle.layout.proofs.Accepted.{accepted}
-use Rattle.consistency.specs.Check.{singlesOf}
-use Rattle.consistency.proofs.Seeking.{from, from-all, from-step, from-end, Seeking, seek-start, seek-as, seek-next, seek-found, seek-end}
 use Rattle.theory.specs.Overlaps.{single}
 use Rattle.layout.specs.Header.{rankOf}
 use Rattle.layout.proofs.Accepted.{accepted}

@@ -1,3 +1,6 @@
+-- `search_triples` meets its contract. The invariant of the innermost loop (`Seeking`, proofs/Seeking): nothing is settled yet, and left to decide are the triples of x_i, x_j from
+-- x_k on, those of x_i after x_j, and those after x_i; of the outer loops, the same from x_j and from x_i on. The labelled break leaves all three with the verdict that was
+-- found (`seek-found`).
 use borrow.Author.Needs.{needs}
 use native.Mathlib.Omega.{arith}
 use mathlib.Core.Path.{sym, _∙_}
@@ -10,11 +13,6 @@ use Rattle.layout.specs.Header.{rankOf}
 use Rattle.layout.proofs.Accepted.{accepted}
 use Rattle.consistency.specs.Check.{triplesOf}
 use Rattle.consistency.proofs.Seeking.{from, from-all, from-end, rows, open-row, open-inner, open-item, row-over, Seeking, seek-start, seek-as, seek-over, seek-next, seek-found, seek-end}
-use Rattle.theory.specs.Overlaps.{triple}
-use Rattle.layout.specs.Header.{rankOf}
-use Rattle.layout.proofs.Accepted.{accepted}
-use Rattle.consistency.specs.Check.{triplesOf}
-use Rattle.consistency.proofs.Seeking.{from, from-all, from-end, rows, open-row, open-inner, open-item, row-over, Seeking, seek-start, seek-as, seek-next, seek-found, seek-end}
 use Rattle.consistency.proofs.searching.search_triples.Statement.{statement}
 use Rattle.consistency.proofs.searching.search_triples.Tie as tie
 
@@ -227,26 +225,14 @@ returns c =
 same-length-4 : tie.Need-same-length-4 Inv-loop2 μ-loop2 Inv-loop μ-loop Inv-search μ-search
 same-length-4 c =
     let start = c .before .before .before .before .before .before .before .before .before .before .before .before .before .before .before .before .before .before .before .before .before .before .before .before .before .before in
-    let a = start .args in
-    let nums = now (a .numbers) in
-    let n = rankOf nums in
-    let seen = start .pre .0 .seen .rank in
-    let few = accepted nums (start .pre .0 .accepts) .measured .most in
     let s = c .before .before .before .before .before .before .before .before .before .before .before .before .before .before .loop2 in
-    let t = c .before .before .before .before .before .before .before .before .before .before .before .before .if3 .taken in
     let v = c .before .before .before .before .before .before .before .before .verdict-at in
     v .kept .1 .1 .1 .1 .0 ∙ s .inv .0 .left-long ∙ sym (start .pre .1 .0)
 
 same-length-5 : tie.Need-same-length-5 Inv-loop2 μ-loop2 Inv-loop μ-loop Inv-search μ-search
 same-length-5 c =
     let start = c .before .before .before .before .before .before .before .before .before .before .before .before .before .before .before .before .before .before .before .before .before .before .before .before .before .before in
-    let a = start .args in
-    let nums = now (a .numbers) in
-    let n = rankOf nums in
-    let seen = start .pre .0 .seen .rank in
-    let few = accepted nums (start .pre .0 .accepts) .measured .most in
     let s = c .before .before .before .before .before .before .before .before .before .before .before .before .before .before .loop2 in
-    let t = c .before .before .before .before .before .before .before .before .before .before .before .before .if3 .taken in
     let v = c .before .before .before .before .before .before .before .before .verdict-at in
     v .kept .1 .1 .1 .1 .1 .0 ∙ s .inv .0 .right-long ∙ sym (start .pre .1 .1)
 

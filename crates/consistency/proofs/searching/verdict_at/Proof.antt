@@ -1,3 +1,4 @@
+-- `verdict_at` meets its contract: a law of proofs/Sayings for each answer of `judge_overlap`.
 use borrow.Author.Needs.{needs}
 use Rattle.consistency.proofs.Sayings.{found-agree, found-differ, found-stop}
 use Rattle.consistency.proofs.searching.verdict_at.Statement.{statement}

@@ -1,14 +1,13 @@
--- `consistency::sides::blank` meets its contract. The invariant: the first at entries are 0, and the others are as they were.
+-- `blank` meets its contract. The invariant: the first at entries are 0, and the others are as they were.
 use borrow.Author.Needs.{needs}
 use native.Mathlib.Omega.{arith}
 use mathlib.Core.Path.{_≡_, refl, ap, _∙_}
-use mathlib.Core.List.{List, _++_}
+use mathlib.Core.List.{List, _++_, append-nil}
 use Prim.Native.Nat.{ℕ, _-_, _≤_}
 use lib.ListN.{length, drop, length-set, replicate}
 use borrow.Author.Fill.{fill-none, fill-more}
 use denote.Ref.{now}
 use lib.Seq.{drop-length}
-use mathlib.Core.List.{append-nil}
 use Rattle.consistency.proofs.sides.blank.Statement.{statement}
 use Rattle.consistency.proofs.sides.blank.Tie as tie
 

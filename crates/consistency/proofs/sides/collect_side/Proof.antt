@@ -1,3 +1,4 @@
+-- `collect_side` meets its contract: the vector is made the identity and the side's slots are put; from there the run of the collector answers as `sideOutcome` (proofs/Laying).
 use borrow.Author.Needs.{needs}
 use Rattle.consistency.proofs.Laying.{side-sets, side-told}
 use Rattle.consistency.proofs.sides.collect_side.Statement.{statement}

@@ -1,3 +1,4 @@
+-- `put_part` meets its contract: a power with the exponent 0 is none, and any other is put as one slot (proofs/Laying).
 use borrow.Author.Needs.{needs}
 use denote.Ref.{now}
 use Rattle.consistency.proofs.Laying.{part-none, part-some}

@@ -1,3 +1,4 @@
+-- `put_side` meets its contract: the parts are put from the last one on, each over the slots of those behind it, so that the first part is on top.
 use borrow.Author.Needs.{needs}
 use native.Mathlib.Omega.{arith}
 use mathlib.Core.Path.{_∙_}

@@ -1,3 +1,4 @@
+-- `put_word` meets its contract: an empty relation word is not put, and any other is put as one string, whose start is small enough for a slot (proofs/Laying).
 use borrow.Author.Needs.{needs}
 use denote.Ref.{now}
 use Rattle.consistency.proofs.Laying.{start-small, word-none, word-some}

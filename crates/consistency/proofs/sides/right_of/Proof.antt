@@ -1,3 +1,5 @@
+-- `right_of` meets its contract: of each kind of overlap the right side is built as document 01 writes it. A law of proofs/Building for each; p - 1 is no number below 0, for p is
+-- a prime.
 use borrow.Author.Needs.{needs}
 use native.Mathlib.Omega.{arith}
 use denote.Ref.{now}

@@ -19,7 +19,7 @@ use Rattle.layout.specs.Header.{rankOf, exponentOf}
 use Rattle.layout.specs.Relations.{presentation}
 use Rattle.layout.specs.Relations as relations
 use Rattle.slots.specs.Pieces.{letters, pairLetters, Pairs, AllWellFormed}
-use Rattle.collector.specs.Inputs.{entriesRight, vectorRight, pairsRight, wordRight, wordSlots, powerSlots}
+use Rattle.collector.specs.Inputs.{entriesRight, vectorRight, pairsRight, mostNumbers, wordRight, wordSlots, powerSlots}
 use Rattle.collector.proofs.Looking.{vector-long, test-pair}
 
 -- A judgement that holds: its first test does, and so does the rest.
@@ -62,11 +62,11 @@ right-pairs n (g ∷ a ∷ w) h =
 
 module _ (nums w : List ℕ) where
   pub word-pairs : wordRight nums w ≡ true → Pairs (rankOf nums) w
-  word-pairs h = right-pairs (rankOf nums) w (both-true (leb (length w) 8192) (pairsRight (rankOf nums) w) h .1)
+  word-pairs h = right-pairs (rankOf nums) w (both-true (leb (length w) mostNumbers) (pairsRight (rankOf nums) w) h .1)
 
   -- "at most 4,096 pairs".
   pub word-short : wordRight nums w ≡ true → length w ≤ 2 * 4096
-  word-short h = let l = leb-true (length w) 8192 (both-true (leb (length w) 8192) (pairsRight (rankOf nums) w) h .0) in omega arith
+  word-short h = let l = leb-true (length w) mostNumbers (both-true (leb (length w) mostNumbers) (pairsRight (rankOf nums) w) h .0) in omega arith
 
 -- The slots that a product starts with: powers of generators from g on, which spell the vector.
 powers-formed : (n g : ℕ) (v : Vector) → 1 ≤ g → length v + g ≤ suc n → AllWellFormed n (powerSlots g v)

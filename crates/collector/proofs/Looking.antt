@@ -22,7 +22,7 @@ use Rattle.layout.specs.Header.{rankOf, exponentOf}
 use Rattle.layout.proofs.Accepted.{and-left, and-right}
 use Rattle.layout.proofs.Pairs.{pair-front}
 use Rattle.slots.specs.Pieces.{Pair}
-use Rattle.collector.specs.Inputs.{entriesRight, vectorRight, pairsRight, wordRight}
+use Rattle.collector.specs.Inputs.{entriesRight, vectorRight, pairsRight, mostNumbers, wordRight}
 
 -- The shape of a judgement: what is judged next counts only if this test holds.
 abbrev both : Bool → Bool → Bool
@@ -102,8 +102,8 @@ module _ (n : ℕ) (w : List ℕ) (at : ℕ) where
           rw (drop-of-length-le w z) (sym (eq-eqb at (length w) (omega arith)))
 
 module _ (nums w : List ℕ) where
-  pub word-few : length w ≤ 8192 → wordRight nums w ≡ pairsRight (rankOf nums) w
-  word-few h = ap (λ (b : Bool). both b (pairsRight (rankOf nums) w)) (le-leb (length w) 8192 h)
+  pub word-few : length w ≤ mostNumbers → wordRight nums w ≡ pairsRight (rankOf nums) w
+  word-few h = ap (λ (b : Bool). both b (pairsRight (rankOf nums) w)) (le-leb (length w) mostNumbers h)
 
-  pub word-many : 8192 < length w → wordRight nums w ≡ false
-  word-many h = ap (λ (b : Bool). both b (pairsRight (rankOf nums) w)) (lt-leb (length w) 8192 h)
+  pub word-many : mostNumbers < length w → wordRight nums w ≡ false
+  word-many h = ap (λ (b : Bool). both b (pairsRight (rankOf nums) w)) (lt-leb (length w) mostNumbers h)

@@ -1,6 +1,6 @@
 -- What a call is handed besides the presentation: vectors and words, when they are right, and the slots that a call starts with.
 --
--- Main definitions: `vectorRight`, `wordRight`, `wordSlots`, `powerSlots`.
+-- Main definitions: `vectorRight`, `mostNumbers`, `wordRight`, `wordSlots`, `powerSlots`.
 use mathlib.Core.List.{List, [], _∷_}
 use mathlib.Core.Bool.{Bool, true, false, _&&_}
 use Prim.Native.Nat.{ℕ, zero, suc}
@@ -24,8 +24,12 @@ pairsRight n [] = true
 pairsRight n (g ∷ []) = false
 pairsRight n (g ∷ a ∷ w) = elim (leb 1 g && (leb g n && leb 1 a)) [ true ↦ pairsRight n w | false ↦ false ]
 
+-- 4,096 pairs, as numbers.
+abbrev pub mostNumbers : ℕ
+mostNumbers = 8192
+
 abbrev pub wordRight : List ℕ → List ℕ → Bool
-wordRight nums w = elim (leb (length w) 8192) [ true ↦ pairsRight (rankOf nums) w | false ↦ false ]
+wordRight nums w = elim (leb (length w) mostNumbers) [ true ↦ pairsRight (rankOf nums) w | false ↦ false ]
 
 -- "Collecting: the input word as one string, none if empty."
 abbrev pub wordSlots : List ℕ → List Piece

@@ -16,6 +16,7 @@ pub use contents::span_at;
 pub use contents::stretch_at;
 pub use header::view_of;
 pub use judging::judge;
+pub use words::names_relation;
 pub use words::span_of;
 pub use words::stretch_of;
 pub use words::word_of;

@@ -38,7 +38,7 @@ pub fn stretch_of(numbers: &[u16], view: View, i: Generator, j: Generator) -> &[
 }
 
 // Whether (i, j) names a relation: 1 ≤ i ≤ j ≤ n.
-fn names_relation(rank: Generator, i: Generator, j: Generator) -> bool
+pub fn names_relation(rank: Generator, i: Generator, j: Generator) -> bool
     ensures { λ r. ⌜ r ≡ namesRelation (rank .0) (i .0) (j .0) ⌝ }
 {
     if i.0 < 1 {

@@ -3,6 +3,7 @@
 use layout::Generator;
 use layout::View;
 use layout::judge;
+use layout::names_relation;
 use layout::span_of;
 use layout::view_of;
 ghost use mathlib.Core.Path.{_≡_};
@@ -10,7 +11,6 @@ ghost use Prim.Native.Nat.{_+_, _*_, _≤_};
 ghost use Rattle.layout.specs.Header.{Seen, rankOf};
 ghost use Rattle.layout.specs.Contents.{placeOf, bodyAt, lengthOf};
 ghost use Rattle.layout.specs.Judged.{judged};
-ghost use Rattle.layout.specs.Words.{namesRelation};
 ghost use Rattle.yavarosht.specs.Handed.{HandedPart};
 
 // The number that the lent numbers get as a presentation.
@@ -19,19 +19,6 @@ pub extern "C" fn yav_judge(numbers: &[u16]) -> u8
     ensures { λ r. ⌜ r ≡ judged (now (numbers .entry)) ⌝ }
 {
     judge(numbers)
-}
-
-// Whether (i, j) names a relation: 1 ≤ i ≤ j ≤ n.
-fn names_relation(rank: Generator, i: Generator, j: Generator) -> bool
-    ensures { λ r. ⌜ r ≡ namesRelation (rank .0) (i .0) (j .0) ⌝ }
-{
-    if i.0 < 1 {
-        return false;
-    }
-    if j.0 < i.0 {
-        return false;
-    }
-    j.0 <= rank.0
 }
 
 // The number with which the stretch of a start in pairs begins. Accepted numbers are far fewer than 32 bits count.

@@ -2,4 +2,5 @@
 // holds besides its number. Nothing is decided here: each function makes one call and hands its answer out, and each contract is that
 // call's own. include/yavarosht.h says the same in the words of C.
 pub mod calls; // collect, product, inverse, depth
+pub mod checking; // the check
 pub mod opening; // judge, fetch

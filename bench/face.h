@@ -24,7 +24,6 @@ typedef struct {
     uint8_t (*inverse)(const uint16_t *numbers, size_t len, uint8_t *vector, size_t vlen, uint32_t budget, uint16_t *work,
                        size_t worklen, uint32_t *count);
     uint8_t (*depth)(const uint16_t *numbers, size_t len, const uint8_t *vector, size_t vlen, uint32_t *depth);
-    /* Null where the library's header has no check. */
     void (*check)(const uint16_t *numbers, size_t len, uint32_t budget, uint16_t *work, size_t worklen, face_verdict *verdict);
 } face;
 

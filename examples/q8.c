@@ -1,4 +1,4 @@
-/* Multiplies two elements of the quaternion group of order 8 and prints them: examples/run-c builds and runs this. */
+/* Checks the quaternion group of order 8, multiplies two of its elements and prints them: examples/run-c builds and runs this. */
 #include <stdio.h>
 
 #include "yavarosht.h"
@@ -12,9 +12,39 @@ static const uint16_t q8[] = {
 };
 enum { N = 3, LEN = sizeof q8 / sizeof *q8, ROOM = 64 };
 
+/* x_1^2 = x_2 and x_2 x_1 = x_1 x_2 x_3 alone: x_1 would not commute with its own square, so the relations are not consistent. */
+static const uint16_t broken[] = {
+    2, 3,
+    0, 1, 1, 0, 1, 0,
+    1, 1, 2, 0, 2, 0,
+    2, 1, 3, 1                    /* w_1 is x_2, and w_12 is x_3 */
+};
+enum { BROKEN_LEN = sizeof broken / sizeof *broken };
+
 static void print(const char *name, const uint8_t *v)
 {
     printf("%s(%d,%d,%d)", name, v[0], v[1], v[2]);
+}
+
+/* Checks a presentation and prints the verdict. */
+static uint8_t check(const char *name, const uint16_t *numbers, size_t len)
+{
+    uint16_t work[3 * ROOM];
+    uint8_t left[YAV_RANK_MOST], right[YAV_RANK_MOST];
+    yav_overlap overlap;
+    uint8_t number = yav_check(numbers, len, 1000, work, 3 * ROOM, &overlap, left, right);
+
+    printf("check of %s: ", name);
+    if (number == YAV_PASS)
+        printf("pass\n");
+    else if (number == YAV_DIFFERS) {
+        printf("differs in family %d at %d %d %d", overlap.family, overlap.i, overlap.j, overlap.k);
+        print(": ", left);
+        print(" against ", right);
+        printf("\n");
+    } else
+        printf("refused with number %d\n", number);
+    return number;
 }
 
 int main(void)
@@ -28,6 +58,8 @@ int main(void)
     uint8_t number = yav_judge(q8, LEN);
 
     printf("judge: %d\n", number);
+    uint8_t verdict = check("Q8", q8, LEN);
+    uint8_t broken_verdict = check("an inconsistent one", broken, BROKEN_LEN);
     number = yav_fetch(q8, LEN, 1, 2, &start, &length);
     printf("w_12 has %u numbers from %u on:", (unsigned)length, (unsigned)start);
     for (uint32_t m = start; m < start + length; m++)
@@ -58,5 +90,5 @@ int main(void)
     uint8_t refused = yav_product(q8, LEN, kept, N, right, N, 0, work, 3 * ROOM, &count);
     print("with budget 0: ", kept);
     printf("  number %d\n", refused);
-    return number == YAV_DONE && refused == YAV_BUDGET ? 0 : 1;
+    return number == YAV_DONE && verdict == YAV_PASS && broken_verdict == YAV_DIFFERS && refused == YAV_BUDGET ? 0 : 1;
 }

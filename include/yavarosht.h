@@ -16,20 +16,21 @@
  * work       scratch space of yours, whatever stands in it. Its room is worklen / 3 slots, rounded down; 3 * 8192 numbers are ample for
  *            most groups. A call that needs more says YAV_ROOM and can be made again with more.
  *
- * What every call that returns one of the numbers below does:
+ * What every call that returns one of the numbers below does (for yav_check see there):
  *
  *     YAV_DONE                 the result is in its place; every number of work is 0
  *     YAV_BUDGET, YAV_ROOM     every vector is as before; every number of work is 0; *count is the count before the refused step
  *     any other                every vector and work are as before; *count (or *depth, *start) is 0
  *
  * The numbers are tested in their order, the first that applies is returned; the left vector is judged before the right one.
- * *count, *depth, *start are always stored, refused or not.
+ * What a call stores (*count, *depth, *start, *overlap, and left and right of yav_check) is always stored, refused or not.
  *
  * What C owes, since no proof can ask it of a C caller: each pointer with a length points to that many elements, aligned for their
- * type, that stay alive and are not changed by others during the call; each pointer to a single uint32_t points to one. What a call
- * writes (a pointer that is not const) overlaps nothing else that is passed in that call. In particular a product needs two separate
- * vectors, also for a square. A null pointer with length 0 is an empty array; a null pointer is nowhere else allowed. Calls keep no
- * state and allocate nothing, so threads may call at the same time on separate buffers. */
+ * type, that stay alive and are not changed by others during the call; each pointer to a single uint32_t or yav_overlap points to one,
+ * and left and right of yav_check to YAV_RANK_MOST bytes each. What a call writes (a pointer that is not const) overlaps nothing else
+ * that is passed in that call. In particular a product needs two separate vectors, also for a square. A null pointer with length 0 is
+ * an empty array; a null pointer is nowhere else allowed. Calls keep no state and allocate nothing, so threads may call at the same
+ * time on separate buffers. */
 #ifndef YAVAROSHT_H
 #define YAVAROSHT_H
 
@@ -53,6 +54,12 @@ enum {
     YAV_WORD = 8,     /* a word has odd length, over 4,096 pairs, generator 0 or above n, or exponent 0 */
     YAV_BUDGET = 9,   /* the next step would bring the count above the budget */
     YAV_ROOM = 10     /* the workspace is too small */
+};
+
+/* What yav_check returns besides YAV_SHORT to YAV_BODY, YAV_BUDGET and YAV_ROOM. */
+enum {
+    YAV_PASS = 0,    /* every overlap agrees: the presentation is consistent */
+    YAV_DIFFERS = 11 /* an overlap's two sides collect to different vectors: it is not */
 };
 
 /* Limits, for arrays of a fixed size. */
@@ -97,6 +104,28 @@ uint8_t yav_inverse(const uint16_t *numbers, size_t len, uint8_t *vector, size_t
  * Returns YAV_DONE to YAV_VECTOR. The vector is only read.
  * *depth    1 to n after YAV_DONE; otherwise 0 */
 uint8_t yav_depth(const uint16_t *numbers, size_t len, const uint8_t *vector, size_t vlen, uint32_t *depth);
+
+/* An overlap of relations: two ways to collect one word. family is 1 to 4, and i, j, k are the generators that it has, 0 for the others:
+ *     1    i < j < k    x_j x_k w_jk x_i            against    x_k x_i x_j w_ij
+ *     2    i < j        w_j x_i                     against    x_j^(p-1) x_i x_j w_ij
+ *     3    i < j        x_i x_j w_ij x_i^(p-1)      against    x_j w_i
+ *     4    i            w_i x_i                     against    x_i w_i
+ * No overlap is all 0. */
+typedef struct {
+    uint16_t family, i, j, k;
+} yav_overlap;
+
+/* Checks that a presentation is consistent: that words which its relations make equal collect to the same vector, so that products are
+ * associative. Both sides of every overlap are collected from the identity, each with the whole budget and the whole of work afresh:
+ * family 1 first, within a family i slowest, then j, then k, each rising. The first overlap whose sides differ, or of which a side is
+ * refused, ends the check.
+ * Returns YAV_PASS, YAV_DIFFERS, or the number of the refusal: YAV_SHORT to YAV_BODY, YAV_BUDGET or YAV_ROOM.
+ * *overlap       after YAV_DIFFERS, YAV_BUDGET and YAV_ROOM the overlap that ended the check; otherwise all 0
+ * left, right    YAV_RANK_MOST bytes each, whatever n is: after YAV_DIFFERS the vectors of the overlap's two sides in the first n bytes,
+ *                and 0 past them; otherwise all 0
+ * work           all 0 after YAV_PASS, YAV_DIFFERS, YAV_BUDGET and YAV_ROOM; otherwise as before */
+uint8_t yav_check(const uint16_t *numbers, size_t len, uint32_t budget, uint16_t *work, size_t worklen, yav_overlap *overlap,
+                  uint8_t left[YAV_RANK_MOST], uint8_t right[YAV_RANK_MOST]);
 
 #ifdef __cplusplus
 }

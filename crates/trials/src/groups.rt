@@ -1,16 +1,16 @@
 // Making presentations in the lent layout, vectors and words. A presentation is made from digits: one for each relation and each
 // generator that its word may have, in the order of the contents, the exponent of that generator.
-use crate::arith::difference;
-use crate::arith::entry_at;
-use crate::arith::number_at;
-use crate::arith::pick;
-use crate::arith::quotient;
-use crate::arith::rest;
-use crate::arith::step;
-use crate::arith::store_entry;
-use crate::arith::store_number;
-use crate::arith::sum;
-use crate::arith::times;
+use total::difference;
+use total::entry_at;
+use total::number_at;
+use total::pick;
+use total::quotient;
+use total::rest;
+use total::step;
+use total::store_entry;
+use total::store_number;
+use total::sum;
+use total::times;
 
 // How much of a presentation is written: entries of the contents, pairs of the bodies, digits read.
 struct Written {

@@ -3,18 +3,11 @@
 // collector's vector and count are held against those of the second one, which replaces leftmost subwords of a row of letters. A
 // disagreement is printed as a case; the last line has the counts.
 //
-// The program itself is proved safe and no more, so its arithmetic is total (arith) and its functions small.
-mod arith; // sums that stay in range, and reading and storing that stay in bounds
+// The program itself is proved safe and no more, so its arithmetic is total (the crate total) and its functions small.
 mod groups; // making presentations, vectors and words
 mod report; // printing
 mod sides; // one call of either collector, compared
 
-use arith::more;
-use arith::part;
-use arith::pick;
-use arith::power;
-use arith::step;
-use arith::stretch;
 use groups::every_digit;
 use groups::make_vector;
 use groups::make_word;
@@ -25,6 +18,12 @@ use report::summary;
 use sides::collections_agree;
 use sides::inverses_agree;
 use sides::products_agree;
+use total::more;
+use total::part;
+use total::pick;
+use total::power;
+use total::step;
+use total::stretch;
 
 // What was run so far, and the generator's state.
 pub struct Tally {

@@ -1,26 +1,9 @@
 // Printing: a case on which the collectors disagree, and the line of counts.
 use crate::Tally;
-use crate::arith::entry_at;
-use crate::arith::number_at;
 use io::print_decimal;
 use io::write_all;
-
-fn space_and(n: usize) {
-    write_all(1, b" ");
-    print_decimal(1, n as u64);
-}
-
-fn print_numbers(numbers: &[u16]) {
-    for at in 0..numbers.len() {
-        space_and(number_at(numbers, at));
-    }
-}
-
-fn print_entries(vector: &[u8]) {
-    for at in 0..vector.len() {
-        space_and(entry_at(vector, at));
-    }
-}
+use total::print_entries;
+use total::print_numbers;
 
 // A case: the presentation's numbers, the vector, and the word or the right factor.
 pub fn disagreement(numbers: &[u16], vector: &[u8], word: &[u16], right: &[u8], call: &[u8]) {

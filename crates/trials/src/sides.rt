@@ -1,11 +1,4 @@
 // One call of the proved collector and the same by the second one: whether vectors and counts agree.
-use crate::arith::difference;
-use crate::arith::entry_at;
-use crate::arith::number_at;
-use crate::arith::part;
-use crate::arith::store_entry;
-use crate::arith::sum;
-use crate::arith::to_word;
 use check::same;
 use collector::collect;
 use collector::inverse;
@@ -14,6 +7,13 @@ use second::append_vector;
 use second::append_word;
 use second::rewrite;
 use second::vector_of;
+use total::difference;
+use total::entry_at;
+use total::number_at;
+use total::part;
+use total::store_entry;
+use total::sum;
+use total::to_word;
 
 // More than any of these calls needs; a call that needs more is a disagreement.
 const BUDGET: u32 = 1000000;

@@ -1,6 +1,6 @@
 // Groups that GAP 4.12 computed: the program's line for each presentation, and products and inverses by the collector. The file
-// `calls` asks for them, one to a line; each line is printed with what came back. What must be printed, the file `stdout`, is made from
-// GAP's tables alone, by tools/foreign_tables.py: nothing in it was computed by this collector.
+// `calls` asks for them, one to a line; each line is printed with what came back. What must be printed, the file `stdout`, is made by
+// tools/foreign_tables.py from tables of GAP and of exact matrices: nothing in it was computed by this collector.
 use collector::inverse;
 use collector::product;
 use io::print_decimal;

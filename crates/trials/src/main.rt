@@ -14,6 +14,7 @@ use groups::make_word;
 use groups::present;
 use groups::spread_digits;
 use report::disagreement;
+use report::end_of_case;
 use report::summary;
 use sides::collections_agree;
 use sides::inverses_agree;
@@ -22,6 +23,8 @@ use total::more;
 use total::part;
 use total::pick;
 use total::power;
+use total::print_entries;
+use total::print_numbers;
 use total::step;
 use total::stretch;
 
@@ -37,50 +40,19 @@ pub struct Tally {
 }
 
 // A word onto the vector.
-fn one_word(
-    numbers: &[u16],
-    vector: &[u8],
-    letters: &mut [u16],
-    work: &mut [u16],
-    tally: Tally,
-) -> Tally {
+fn one_word(numbers: &[u16], vector: &[u8], tally: Tally) -> Tally {
     let mut room = [0u16; 8];
-    word_in(numbers, vector, &mut room, letters, work, tally)
+    let drawn = make_word(numbers, tally.state, &mut room);
+    let len = stretch(drawn.len, &room);
+    drawn_word(numbers, vector, &room[..len], drawn.state, tally)
 }
 
-fn word_in(
-    numbers: &[u16],
-    vector: &[u8],
-    room: &mut [u16],
-    letters: &mut [u16],
-    work: &mut [u16],
-    tally: Tally,
-) -> Tally {
-    let drawn = make_word(numbers, tally.state, room);
-    let len = stretch(drawn.len, room);
-    drawn_word(
-        numbers,
-        vector,
-        &room[..len],
-        letters,
-        work,
-        drawn.state,
-        tally,
-    )
-}
-
-fn drawn_word(
-    numbers: &[u16],
-    vector: &[u8],
-    word: &[u16],
-    letters: &mut [u16],
-    work: &mut [u16],
-    state: u64,
-    tally: Tally,
-) -> Tally {
-    let held = collections_agree(numbers, vector, word, letters, work);
+fn drawn_word(numbers: &[u16], vector: &[u8], word: &[u16], state: u64, tally: Tally) -> Tally {
+    let held = collections_agree(numbers, vector, word);
     if !held.agree {
-        disagreement(numbers, vector, word, &vector[0..0], b"a word");
+        disagreement(numbers, vector, b"a word");
+        print_numbers(word);
+        end_of_case();
     }
     Tally {
         state,
@@ -94,51 +66,20 @@ fn drawn_word(
 }
 
 // The vector times one on its right.
-fn one_product(
-    numbers: &[u16],
-    vector: &[u8],
-    letters: &mut [u16],
-    work: &mut [u16],
-    tally: Tally,
-) -> Tally {
+fn one_product(numbers: &[u16], vector: &[u8], tally: Tally) -> Tally {
     let mut room = [0u8; 8];
-    product_in(
-        numbers,
-        vector,
-        &mut room,
-        letters,
-        work,
-        step(tally.state),
-        tally,
-    )
+    let state = step(tally.state);
+    let made = make_vector(numbers, pick(state, 3125), &mut room);
+    let n = part(made, &room);
+    drawn_product(numbers, vector, &room[..n], state, tally)
 }
 
-fn product_in(
-    numbers: &[u16],
-    vector: &[u8],
-    room: &mut [u8],
-    letters: &mut [u16],
-    work: &mut [u16],
-    state: u64,
-    tally: Tally,
-) -> Tally {
-    let made = make_vector(numbers, pick(state, 3125), room);
-    let n = part(made, room);
-    drawn_product(numbers, vector, &room[..n], letters, work, state, tally)
-}
-
-fn drawn_product(
-    numbers: &[u16],
-    vector: &[u8],
-    right: &[u8],
-    letters: &mut [u16],
-    work: &mut [u16],
-    state: u64,
-    tally: Tally,
-) -> Tally {
-    let held = products_agree(numbers, vector, right, letters, work);
+fn drawn_product(numbers: &[u16], vector: &[u8], right: &[u8], state: u64, tally: Tally) -> Tally {
+    let held = products_agree(numbers, vector, right);
     if !held.agree {
-        disagreement(numbers, vector, &numbers[0..0], right, b"a product");
+        disagreement(numbers, vector, b"a product");
+        print_entries(right);
+        end_of_case();
     }
     Tally {
         state,
@@ -151,22 +92,11 @@ fn drawn_product(
     }
 }
 
-fn one_inverse(
-    numbers: &[u16],
-    vector: &[u8],
-    letters: &mut [u16],
-    work: &mut [u16],
-    tally: Tally,
-) -> Tally {
-    let held = inverses_agree(numbers, vector, letters, work);
+fn one_inverse(numbers: &[u16], vector: &[u8], tally: Tally) -> Tally {
+    let held = inverses_agree(numbers, vector);
     if !held.agree {
-        disagreement(
-            numbers,
-            vector,
-            &numbers[0..0],
-            &vector[0..0],
-            b"an inverse",
-        );
+        disagreement(numbers, vector, b"an inverse");
+        end_of_case();
     }
     Tally {
         state: tally.state,
@@ -179,75 +109,25 @@ fn one_inverse(
     }
 }
 
-// A word and a right factor.
-fn one_round(
-    numbers: &[u16],
-    vector: &[u8],
-    letters: &mut [u16],
-    work: &mut [u16],
-    tally: Tally,
-) -> Tally {
-    let sum = one_word(numbers, vector, letters, work, tally);
-    one_product(numbers, vector, letters, work, sum)
-}
-
 // One vector: its inverse, and so many words and right factors.
-fn one_vector(
-    numbers: &[u16],
-    vector: &[u8],
-    times: usize,
-    letters: &mut [u16],
-    work: &mut [u16],
-    tally: Tally,
-) -> Tally {
-    let mut sum = one_inverse(numbers, vector, letters, work, tally);
+fn one_vector(numbers: &[u16], vector: &[u8], times: usize, tally: Tally) -> Tally {
+    let mut sum = one_inverse(numbers, vector, tally);
     for k in 0..times {
-        sum = one_round(numbers, vector, letters, work, sum);
+        sum = one_word(numbers, vector, sum);
+        sum = one_product(numbers, vector, sum);
     }
     sum
 }
 
-fn vector_numbered(
-    numbers: &[u16],
-    index: usize,
-    times: usize,
-    letters: &mut [u16],
-    work: &mut [u16],
-    tally: Tally,
-) -> Tally {
+fn vector_numbered(numbers: &[u16], index: usize, times: usize, tally: Tally) -> Tally {
     let mut room = [0u8; 8];
-    vector_in(numbers, index, times, &mut room, letters, work, tally)
-}
-
-fn vector_in(
-    numbers: &[u16],
-    index: usize,
-    times: usize,
-    room: &mut [u8],
-    letters: &mut [u16],
-    work: &mut [u16],
-    tally: Tally,
-) -> Tally {
-    let made = make_vector(numbers, index, room);
-    let n = part(made, room);
-    one_vector(numbers, &room[..n], times, letters, work, tally)
+    let made = make_vector(numbers, index, &mut room);
+    let n = part(made, &room);
+    one_vector(numbers, &room[..n], times, tally)
 }
 
 // One presentation: every vector.
 fn one_group(numbers: &[u16], vectors: usize, times: usize, tally: Tally) -> Tally {
-    let mut letters = [0u16; 4096];
-    let mut work = [0u16; 1500];
-    all_vectors(numbers, vectors, times, &mut letters, &mut work, tally)
-}
-
-fn all_vectors(
-    numbers: &[u16],
-    vectors: usize,
-    times: usize,
-    letters: &mut [u16],
-    work: &mut [u16],
-    tally: Tally,
-) -> Tally {
     let mut sum = Tally {
         state: tally.state,
         presentations: more(tally.presentations, 1),
@@ -258,7 +138,7 @@ fn all_vectors(
         wrong: tally.wrong,
     };
     for index in 0..vectors {
-        sum = vector_numbered(numbers, index, times, letters, work, sum);
+        sum = vector_numbered(numbers, index, times, sum);
     }
     sum
 }

@@ -5,8 +5,8 @@ use io::write_all;
 use total::print_entries;
 use total::print_numbers;
 
-// A case: the presentation's numbers, the vector, and the word or the right factor.
-pub fn disagreement(numbers: &[u16], vector: &[u8], word: &[u16], right: &[u8], call: &[u8]) {
+// The beginning of a case: the call, the presentation's numbers and the vector. The word or the right factor comes after it.
+pub fn disagreement(numbers: &[u16], vector: &[u8], call: &[u8]) {
     write_all(1, b"the collectors disagree on ");
     write_all(1, call);
     write_all(1, b": numbers");
@@ -14,8 +14,9 @@ pub fn disagreement(numbers: &[u16], vector: &[u8], word: &[u16], right: &[u8], 
     write_all(1, b"; vector");
     print_entries(vector);
     write_all(1, b"; with");
-    print_numbers(word);
-    print_entries(right);
+}
+
+pub fn end_of_case() {
     write_all(1, b"\n");
 }
 

@@ -21,6 +21,8 @@ import pcp_text as pcp  # noqa: E402
 SOIL = 43981
 DONE, VECTOR, WORD, BUDGET, ROOM = 0, 7, 8, 9, 10
 PAIRS_MAX = 4096
+# Words of up to so many letters are also worked out by leftmost replacement, which is slow on long ones.
+LETTERS_MAX = 600
 
 
 # --- the rules ---------------------------------------------------------------------------------------------------------------------
@@ -53,9 +55,9 @@ def workspace(number, length):
     return [0 if number in (DONE, BUDGET, ROOM) else SOIL] * length
 
 
-def change(numbers, vector, length, right, run):
+def change(numbers, vector, length, right, run, letters=None):
     """(number, count, vector, workspace) of collect, product or inverse. `right(presentation)` is the number of what is read beside the
-    vector, `run(presentation, room)` the model's run."""
+    vector, `run(presentation, room)` the model's run. Where the run is of a word of few letters, leftmost replacement must agree."""
     number, presentation = judge(numbers)
     if number == DONE and not vector_right(presentation, vector):
         number = VECTOR
@@ -64,17 +66,21 @@ def change(numbers, vector, length, right, run):
     if number != DONE:
         return number, 0, vector, workspace(number, length)
     number, after, count, _ = run(presentation, length // 3)
+    if number == DONE and letters is not None and len(letters) <= LETTERS_MAX:
+        assert (after, count) == model.rewrite(presentation, letters), 'not what leftmost replacement gives'
     return number, count, after if number == DONE else vector, workspace(number, length)
 
 
 def collect(numbers, vector, word, budget, length):
     return change(numbers, vector, length, lambda made: DONE if word_right(made, word) else WORD,
-                  lambda made, room: model.collect(made, vector, pairs_of(word), budget, room))
+                  lambda made, room: model.collect(made, vector, pairs_of(word), budget, room),
+                  model.letters_of(list(enumerate(vector, 1)) + pairs_of(word)))
 
 
 def product(numbers, left, right, budget, length):
     return change(numbers, left, length, lambda made: DONE if vector_right(made, right) else VECTOR,
-                  lambda made, room: model.product(made, left, right, budget, room))
+                  lambda made, room: model.product(made, left, right, budget, room),
+                  model.letters_of(list(enumerate(left, 1)) + list(enumerate(right, 1))))
 
 
 def inverse(numbers, vector, budget, length):

@@ -95,7 +95,7 @@ inverseCall nums v budget ws =
     judgedFirst nums v ws
     (vectorFirst (vectorRight nums v) v ws (closed (inverting nums budget (roomOf ws) (rankOf nums) 1 v 0) v ws))
 
--- "DepthAnswer of a vector: the number of its first entry that isn't 0; n for the identity." The entries are those of g, g + 1, ..
+-- "Depth of a vector: the number of its first entry that isn't 0; n for the identity." The entries are those of g, g + 1, ..
 abbrev pub firstEntry : ℕ → ℕ → Vector → ℕ
 firstEntry none g [] = none
 firstEntry none g (zero ∷ v) = firstEntry none (suc g) v

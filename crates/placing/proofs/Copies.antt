@@ -1,6 +1,6 @@
 -- The slots of one entry: how they are brought about, and what they stand for.
 --
--- Main results: `copies-more`, `entry-copies`, `entry-power`, `exchange-more`, `exchange-grows`.
+-- Main results: `copies-more`, `entry-copies`, `entry-power`, `exchange-more`, `exchange-grows`, `exchange-zeros`.
 use mathlib.Core.Path.{_≡_, refl, sym, ap, _∙_}
 use mathlib.Core.List.{List, [], _∷_, map}
 use mathlib.Core.Bool.{Bool, true, false}
@@ -12,6 +12,7 @@ use lib.Seq.{drop-cons}
 use lib.Dec.{eqb}
 use borrow.Author.Tests.{eq-eqb, ne-eqb}
 use Rattle.theory.specs.Presentation.{Vector}
+use Rattle.theory.specs.Placing.{total}
 use Rattle.layout.specs.declared.Generator.{Generator}
 use Rattle.layout.specs.declared.Span.{Span}
 use Rattle.layout.specs.Header.{rankOf, bodiesAt, entries}
@@ -23,6 +24,7 @@ use Rattle.slots.specs.Slots.{stack, Pushed, Brought, powerOf}
 use Rattle.slots.proofs.Stores.{length-stack}
 use Rattle.slots.proofs.Brings.{brought-from}
 use Rattle.placing.specs.Exchange.{copiesOf, entrySlots, spanOf, exchangeSlots}
+use Rattle.placing.proofs.Tails.{total-zeros}
 
 pub length-copies : (b : ℕ) (x : Slot) (g : Generator) (below : List Slot) → length (copiesOf b x g below) ≡ length below + 2 * b
 length-copies zero x g below = omega arith
@@ -122,6 +124,17 @@ module _ (nums : List ℕ) (i : ℕ) (v : Vector) (below : List Slot) where
       let s = ap length (exchange-more at (omega arith)) in
       let t = entry-grows (spanOf nums (entryAt (rankOf nums) i (at + 1))) (record { 0 = at + 1 }) (exchangeSlots nums i (at + 1 + 1) (drop (at + 1) v) below) (getD v at 0) in
       omega (arith, e, r, s, t)
+
+  -- Entries 0 put nothing.
+  pub exchange-zeros : (k at : ℕ) → at + k ≤ length v → total (drop at v) ≡ total (drop (at + k) v)
+      → exchangeSlots nums i (at + k + 1) (drop (at + k) v) below ≡ exchangeSlots nums i (at + 1) (drop at v) below
+  exchange-zeros zero at h t = let z : at + 0 ≡ at = omega arith in ap (λ (x : ℕ). exchangeSlots nums i (x + 1) (drop x v) below) z
+  exchange-zeros (suc k) at h t =
+      let z : at + suc k ≡ at + 1 + k = omega arith in
+      let r = total-zeros v k at h t in
+      ap (λ (x : ℕ). exchangeSlots nums i (x + 1) (drop x v) below) z
+      ∙ exchange-zeros k (at + 1) (omega arith) (r .1)
+      ∙ sym (exchange-more at (omega arith) ∙ entry-none _ _ _ (getD v at 0) (r .0))
 
   -- A turn of the loop that exchanges the entries: the entries from at on are exchanged, and the one before them is next.
   module _ (at : ℕ) (above : i < at) (within : at ≤ length v) where

@@ -1,6 +1,6 @@
 -- One placing, put together: what each test on the way says of the step that document 01 rules.
 --
--- Main results: `refused-budget`, `refused-taken`, `refused-after`, `led`: what is answered at each end of a placing.
+-- Main results: `passes-taken`, `passes-after`: what steps 1 and 2 leave; `refused`, `led`: what is answered at each end of a placing.
 use mathlib.Core.Path.{_≡_, refl, sym, ap, ap₂, _∙_, subst}
 use mathlib.Core.List.{List, [], _∷_, map}
 use mathlib.Core.Bool.{Bool, true, false}
@@ -23,10 +23,10 @@ use Rattle.slots.specs.Pieces.{Piece, power, string, meaning, pieces, leading, 
 use Rattle.slots.specs.Stacked.{Stacked, Took}
 use Rattle.slots.proofs.Stores.{length-stack}
 use Rattle.slots.proofs.Stacks.{length-pieces, leading-top}
-use Rattle.placing.specs.Exchange.{exchanged, exchange, copies, exchangeSlots, Filled}
-use Rattle.placing.specs.Step.{Step, refuse, lead, step, placingOf, slotsAfter}
+use Rattle.placing.specs.Exchange.{exchanged, exchange, copies, exchangeSlots, cleared, Filled}
+use Rattle.placing.specs.Step.{Step, refuse, lead, due, step, placingOf, slotsAfter}
 use Rattle.placing.specs.declared.Placement.{Placement}
-use Rattle.placing.specs.Ready.{Ground, Ready, Tells, Steps}
+use Rattle.placing.specs.Ready.{Ground, Ready, Passes, Tells, Steps}
 use Rattle.placing.proofs.Meaning.{meaning-exchange, standing-exchange}
 
 -- The exchange only adds slots.
@@ -60,6 +60,56 @@ taken-length (string (i ∷ []) ∷ below) = omega arith
 taken-length (string (i ∷ a ∷ []) ∷ below) = let h = lessened-small i a below in omega arith
 taken-length (string (i ∷ a ∷ g ∷ pairs) ∷ below) = lessened-small i a (string (g ∷ pairs) ∷ below)
 
+-- The number that is due, by its tests.
+due-more : (left c room r : ℕ) → room < r → 1 ≤ due left c room r
+due-more left c room r h = go (ltb left c) refl
+  where
+    go : (t : Bool) → ltb left c ≡ t → 1 ≤ due left c room r
+    go true x = simp (x, lt-ltb room r h, due) (omega arith)
+    go false x = simp (x, lt-ltb room r h, due) (omega arith)
+
+pub due-fits : (left c room r : ℕ) → due left c room r ≡ 0 → r ≤ room
+due-fits left c room r z = go (r - room) refl
+  where
+    go : (k : ℕ) → r - room ≡ k → r ≤ room
+    go zero e = omega (arith, e)
+    go (suc k) e = absurd (omega (arith, z, due-more left c room r (omega (arith, e))))
+
+due-same : (left c room r s : ℕ) → (room < r → room < s) → (r ≤ room → s ≤ room) → due left c room r ≡ due left c room s
+due-same left c room r s over fits = go (r - room) refl (ltb left c) refl
+  where
+    go : (k : ℕ) → r - room ≡ k → (t : Bool) → ltb left c ≡ t → due left c room r ≡ due left c room s
+    go zero e true x = simp (x, le-ltb room r (omega (arith, e)), le-ltb room s (fits (omega (arith, e))), due)
+    go zero e false x = simp (x, le-ltb room r (omega (arith, e)), le-ltb room s (fits (omega (arith, e))), due)
+    go (suc k) e true x = simp (x, lt-ltb room r (omega (arith, e)), lt-ltb room s (over (omega (arith, e))), due)
+    go (suc k) e false x = simp (x, lt-ltb room r (omega (arith, e)), lt-ltb room s (over (omega (arith, e))), due)
+
+-- The step by the number that is due.
+module _ (nums : List ℕ) (left room : ℕ) (v : Vector) (slots : List Piece) where
+  abbrev stepOf : ℕ → Step
+  stepOf zero = lead (placingOf nums v slots .vector) (slotsAfter nums v slots) (placingOf nums v slots .exchanges) (placingOf nums v slots .powers)
+  stepOf (suc k) = refuse (suc k)
+
+  step-is : step nums left room v slots ≡ stepOf (due left (cost (placingOf nums v slots)) room (length (slotsAfter nums v slots)))
+  step-is = go (ltb left (cost (placingOf nums v slots))) refl (ltb room (length (slotsAfter nums v slots))) refl
+    where
+      go : (s : Bool) → ltb left (cost (placingOf nums v slots)) ≡ s → (t : Bool) → ltb room (length (slotsAfter nums v slots)) ≡ t
+          → step nums left room v slots ≡ stepOf (due left (cost (placingOf nums v slots)) room (length (slotsAfter nums v slots)))
+      go true x true y = simp (x, y, step, due)
+      go true x false y = simp (x, y, step, due)
+      go false x true y = simp (x, y, step, due)
+      go false x false y = simp (x, y, step, due)
+
+  step-refused : (k : ℕ) → k ≡ due left (cost (placingOf nums v slots)) room (length (slotsAfter nums v slots)) → (k ≡ 0 → ⊥)
+      → step nums left room v slots ≡ refuse k
+  step-refused zero e nonzero = absurd (nonzero refl)
+  step-refused (suc k) e nonzero = step-is ∙ ap stepOf (sym e)
+
+  step-leads : due left (cost (placingOf nums v slots)) room (length (slotsAfter nums v slots)) ≡ 0
+      → step nums left room v slots
+      ≡ lead (placingOf nums v slots .vector) (slotsAfter nums v slots) (placingOf nums v slots .exchanges) (placingOf nums v slots .powers)
+  step-leads e = step-is ∙ ap stepOf e
+
 -- i is the letter that the slots begin with, e and p are its exchanges and power uses, as the code counts them.
 pub record Counted (nums : List ℕ) (v : Vector) (slots : List Piece) (i e p : ℕ) : Type 0 where
   pub leads : i ≡ leading slots
@@ -88,73 +138,26 @@ module _ {nums bodies word : List ℕ} {v : Vector} {ws : List ℕ} {d : ℕ} (r
   pub range-of : (i : ℕ) → i ≡ leading slots → (1 ≤ i) × (i ≤ rankOf nums)
   range-of i e = (omega (arith, range, e), omega (arith, range, e))
 
-  module _ {i e p : ℕ} (counted : Counted nums v slots i e p) where
-    abbrev is : i ≡ leading slots
-    is = counted .leads
-
+  -- Steps 1 and 2, with the letter i.
+  module _ {i : ℕ} (is : i ≡ leading slots) where
     in-range : (1 ≤ i) × (i ≤ rankOf nums)
     in-range = range-of i is
-
-    placing-is : placingOf nums v slots ≡ placedAt (presentation nums) v i (i - 1)
-    placing-is =
-        ap (place (presentation nums) 1 v) (sym is)
-        ∙ place-is (presentation nums) 1 v i (i - 1) (omega (arith, in-range)) (omega (arith, in-range, long))
-
-    -- The replacements, as the code counts them.
-    pub exchanges-are : e ≡ placingOf nums v slots .exchanges
-    exchanges-are =
-        let f : i ≡ suc (i - 1) = omega (arith, in-range) in
-        counted .exchanges ∙ ap (λ (x : ℕ). total (drop x v)) f ∙ sym (ap (λ (r : Placed). r .exchanges) placing-is)
-
-    pub powers-are : p ≡ placingOf nums v slots .powers
-    powers-are = counted .powers ∙ sym (ap (λ (r : Placed). r .powers) placing-is)
-
-    cost-is : e + p ≡ cost (placingOf nums v slots)
-    cost-is = ap₂ (λ (x y : ℕ). x + y) exchanges-are powers-are
 
     -- What is left on the slots is what is exchanged on what was taken.
     slots-are : slotsAfter nums v slots ≡ exchange nums i (suc i) (drop i v) (taken slots)
     slots-are = ap (λ (x : ℕ). exchange nums x (suc x) (drop x v) (taken slots)) (sym is)
 
-    module _ (left : ℕ) where
-      step-budget : left < e + p → step nums left room v slots ≡ refuse 9
-      step-budget h = let c = cost-is in rw (lt-ltb left (cost (placingOf nums v slots)) (omega (arith, h, c)), step)
-
-      step-room : e + p ≤ left → room < length (slotsAfter nums v slots) → step nums left room v slots ≡ refuse 10
-      step-room h f =
-          let c = cost-is in
-          rw (le-ltb left (cost (placingOf nums v slots)) (omega (arith, h, c)), lt-ltb room (length (slotsAfter nums v slots)) f, step)
-
-      step-lead : e + p ≤ left → length (slotsAfter nums v slots) ≤ room
-          → step nums left room v slots
-          ≡ lead (placingOf nums v slots .vector) (slotsAfter nums v slots) (placingOf nums v slots .exchanges) (placingOf nums v slots .powers)
-      step-lead h f =
-          let c = cost-is in
-          rw (le-ltb left (cost (placingOf nums v slots)) (omega (arith, h, c)), le-ltb room (length (slotsAfter nums v slots)) f, step)
-
-    -- A refusal says its number, and nothing of the vector and the slots.
-    refused : {left k : ℕ} {v′ : Vector} {ws′ : List ℕ} {r : Placement} → step nums left room v slots ≡ refuse k → (k ≡ 0 → ⊥) → length ws′ ≡ length ws
-        → r .number ≡ k → Steps nums bodies word left v ws d v′ ws′ r
-    refused {left} {k} {v′} {ws′} {r} a nonzero kept number =
-        record {
-          kept = kept;
-          tells = subst (λ (x : Step). Tells x r v′ (pieces bodies word ws′ (r .depth))) (sym a) number;
-          stands = λ z. absurd (nonzero (sym number ∙ z));
-        }
-
-    pub refused-budget : {left : ℕ} {r : Placement} → left < e + p → r .number ≡ 9 → Steps nums bodies word left v ws d v ws r
-    refused-budget {left} h number = refused (step-budget left h) (λ q. omega arith) refl number
-
     -- Step 1 without room.
-    taken-room : (t : ℕ) → t ≡ length (taken slots) → length ws < 3 * t → room < length (slotsAfter nums v slots)
-    taken-room t q h =
+    pub passes-taken : {ws₁ : List ℕ} {t : ℕ} → Took bodies word ws d ws₁ t → length ws < 3 * t → Passes nums bodies word i v ws d v ws₁ t
+    passes-taken {ws₁} {t} took full =
         let f = ap length slots-are in
-        omega (arith, exchange-grows nums i (suc i) (drop i v) (taken slots), q, h, f)
-
-    pub refused-taken : {left t : ℕ} {ws₁ : List ℕ} {r : Placement} → Took bodies word ws d ws₁ t → e + p ≤ left → length ws < 3 * t → r .number ≡ 10
-        → Steps nums bodies word left v ws d v ws₁ r
-    refused-taken {left} {t} took h full number =
-        refused (step-room left h (taken-room t (took .depth) full)) (λ q. omega arith) (took .kept) number
+        record {
+          kept = took .kept;
+          over = λ h. omega (arith, exchange-grows nums i (suc i) (drop i v) (taken slots), took .depth, full, f);
+          slots = λ h. absurd (omega (arith, h, full));
+          stands = λ h. absurd (omega (arith, h, full));
+          vector = λ h. absurd (omega (arith, h, full));
+        }
 
     -- Step 2, once step 1 has left t slots on ws₁: the slots that are put stand for those of document 01.
     module _ {view : View} (ground : Ground nums view bodies word) {ws₁ : List ℕ} {t : ℕ} (took : Took bodies word ws d ws₁ t) (fit : 3 * t ≤ length ws) where
@@ -172,13 +175,6 @@ module _ {nums bodies word : List ℕ} {v : Vector} {ws : List ℕ} {d : ℕ} (r
           sym (length-map (exchangeSlots nums i (suc i) (drop i v) (stack ws₁ t)) (meaning bodies word)) ∙ ap length after-is
 
       module _ {ws₂ : List ℕ} {r : ℕ} (filled : Filled (exchangeSlots nums i (suc i) (drop i v) (stack ws₁ t)) ws₁ ws₂ r) where
-        after-room : length ws < 3 * r → room < length (slotsAfter nums v slots)
-        after-room h =
-            let o = filled .over (omega (arith, took .kept, h)) in omega (arith, o, after-length, took .kept)
-
-        after-pieces : 3 * r ≤ length ws → pieces bodies word ws₂ r ≡ slotsAfter nums v slots
-        after-pieces h = ap (map (meaning bodies word)) (filled .fits (omega (arith, took .kept, h))) ∙ after-is
-
         after-stacked : 3 * r ≤ length ws → Stacked (rankOf nums) bodies word ws₂ r
         after-stacked h =
             let before = took .stacked (rankOf nums) (ready .stacked) fit in
@@ -190,24 +186,59 @@ module _ {nums bodies word : List ℕ} {v : Vector} {ws : List ℕ} {d : ℕ} (r
                   (standing-exchange bodies word nums (ground .accepts) (ground .bodies-are) i (suc i) (drop i v) (stack ws₁ t) (in-range .0) (omega arith) below-tail (before .slots));
             }
 
-        after-fits : 3 * r ≤ length ws → length (slotsAfter nums v slots) ≤ room
-        after-fits h =
-            let e : length (stack ws₂ r) ≡ r = length-stack ws₂ r in
-            let f = ap length (filled .fits (omega (arith, took .kept, h))) in
-            omega (arith, e, f, after-length, h)
-
-        pub refused-after : {left : ℕ} {q : Placement} → e + p ≤ left → length ws < 3 * r → q .number ≡ 10 → Steps nums bodies word left v ws d v ws₂ q
-        refused-after {left} h full number =
-            refused (step-room left h (after-room full)) (λ z. omega arith) (filled .kept ∙ took .kept) number
-
-        pub led : {left : ℕ} {v′ : Vector} → e + p ≤ left → 3 * r ≤ length ws → v′ ≡ place (presentation nums) 1 v i .vector
-            → Steps nums bodies word left v ws d v′ ws₂ (record { number = 0; depth = r; exchanges = e; powers = p })
-        led {left} {v′} h fits vector =
+        pub passes-after : {v′ : Vector} → (3 * r ≤ length ws₁ → v′ ≡ cleared i v) → Passes nums bodies word i v ws d v′ ws₂ r
+        passes-after vector =
             record {
               kept = filled .kept ∙ took .kept;
-              tells =
-                  subst (λ (x : Step). Tells x (record { number = 0; depth = r; exchanges = e; powers = p }) v′ (pieces bodies word ws₂ r))
-                  (sym (step-lead left h (after-fits fits)))
-                  (refl, vector ∙ ap (λ (x : ℕ). place (presentation nums) 1 v x .vector) is, after-pieces fits, exchanges-are, powers-are);
-              stands = λ z. after-stacked fits;
+              over = λ h. let o = filled .over (omega (arith, took .kept, h)) in omega (arith, o, after-length, took .kept);
+              slots = λ h. ap (map (meaning bodies word)) (filled .fits (omega (arith, took .kept, h))) ∙ after-is;
+              stands = λ h. after-stacked (omega (arith, h));
+              vector = λ h. vector (omega (arith, took .kept, h));
             }
+
+  -- BUDGET and ROOM, and where a placing leads.
+  module _ {i e p : ℕ} (counted : Counted nums v slots i e p) where
+    placing-is : placingOf nums v slots ≡ placedAt (presentation nums) v i (i - 1)
+    placing-is =
+        let h = in-range (counted .leads) in
+        ap (place (presentation nums) 1 v) (sym (counted .leads))
+        ∙ place-is (presentation nums) 1 v i (i - 1) (omega (arith, h)) (omega (arith, h, long))
+
+    -- The replacements, as the code counts them.
+    exchanges-are : e ≡ placingOf nums v slots .exchanges
+    exchanges-are =
+        let f : i ≡ suc (i - 1) = omega (arith, in-range (counted .leads)) in
+        counted .exchanges ∙ ap (λ (x : ℕ). total (drop x v)) f ∙ sym (ap (λ (r : Placed). r .exchanges) placing-is)
+
+    powers-are : p ≡ placingOf nums v slots .powers
+    powers-are = counted .powers ∙ sym (ap (λ (r : Placed). r .powers) placing-is)
+
+    module _ {v′ : Vector} {ws′ : List ℕ} {r : ℕ} (passes : Passes nums bodies word i v ws d v′ ws′ r) where
+      -- The code's comparisons are document 01's.
+      due-is : (left : ℕ) → due left (e + p) room r ≡ due left (cost (placingOf nums v slots)) room (length (slotsAfter nums v slots))
+      due-is left =
+          ap (λ (x : ℕ). due left x room r) (ap₂ (λ (x y : ℕ). x + y) exchanges-are powers-are)
+          ∙ due-same left (cost (placingOf nums v slots)) room r (length (slotsAfter nums v slots)) (passes .over)
+          (λ h. let l = length-pieces bodies word ws′ r in let q = ap length (passes .slots h) in omega (arith, l, q, h))
+
+      -- A refusal says its number, and nothing of the vector and the slots.
+      pub refused : {left k : ℕ} {q : Placement} → k ≡ due left (e + p) room r → (k ≡ 0 → ⊥) → q .number ≡ k → Steps nums bodies word left v ws d v′ ws′ q
+      refused {left} {k} {q} a nonzero number =
+          record {
+            kept = passes .kept;
+            tells = subst (λ (x : Step). Tells x q v′ (pieces bodies word ws′ (q .depth))) (sym (step-refused nums left room v slots k (a ∙ due-is left) nonzero)) number;
+            stands = λ z. absurd (nonzero (sym number ∙ z));
+          }
+
+      pub led : {left k : ℕ} {v″ : Vector} → k ≡ due left (e + p) room r → k ≡ 0 → v″ ≡ place (presentation nums) 1 v i .vector
+          → Steps nums bodies word left v ws d v″ ws′ (record { number = 0; depth = r; exchanges = e; powers = p })
+      led {left} {k} {v″} a z vector =
+          let fits = due-fits left (e + p) room r (sym a ∙ z) in
+          record {
+            kept = passes .kept;
+            tells =
+                subst (λ (x : Step). Tells x (record { number = 0; depth = r; exchanges = e; powers = p }) v″ (pieces bodies word ws′ r))
+                (sym (step-leads nums left room v slots (sym (due-is left) ∙ sym a ∙ z)))
+                (refl, vector ∙ ap (λ (x : ℕ). place (presentation nums) 1 v x .vector) (counted .leads), passes .slots fits, exchanges-are, powers-are);
+            stands = λ y. passes .stands fits;
+          }

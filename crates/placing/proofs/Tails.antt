@@ -1,14 +1,14 @@
--- Sums and clearing of a vector's tail, by index: what the loops over a vector keep.
+-- Sums of a vector's tail, by index: what the loops over a vector keep.
 --
--- Main results: `total-from`, `cleared-more`, `reaches`, `reaches-not`.
+-- Main results: `total-from`, `total-zeros`, `reaches`, `reaches-not`.
 use mathlib.Core.Path.{_≡_, refl, sym, ap, _∙_}
-use mathlib.Core.List.{List, [], _∷_, _++_, append-assoc}
+use mathlib.Core.List.{List, [], _∷_}
 use Prim.Native.Nat.{ℕ, zero, suc, _+_, _-_, _≤_, _<_}
 use native.Mathlib.Omega.{arith}
 use native.Mathlib.Numerals.{add-one}
-use lib.ListN.{length, getD, set, take, drop, replicate-append-replicate}
-use lib.Seq.{drop-cons, take-suc-set}
-use Rattle.theory.specs.Presentation.{Vector, identity}
+use lib.ListN.{length, getD, drop}
+use lib.Seq.{drop-cons}
+use Rattle.theory.specs.Presentation.{Vector}
 use borrow.Author.Tests.{eq-eqb, ne-eqb}
 use Rattle.theory.specs.Placing.{total, powerUses}
 
@@ -22,15 +22,26 @@ total-none [] (suc at) h = refl
 total-none (a ∷ v) zero h = absurd (omega arith)
 total-none (a ∷ v) (suc at) h = total-none v at (omega arith)
 
--- One entry more set to 0, behind those that are.
-pub cleared-more : (v now front : Vector) (k at : ℕ) → at < length now → take at now ≡ front ++ identity k
-    → take (at + 1) (set now at 0) ≡ front ++ identity (k + 1)
-cleared-more v now front k at h e =
-    ap (λ (x : ℕ). take x (set now at 0)) (add-one at)
-    ∙ take-suc-set now at 0 h
-    ∙ ap (λ (x : Vector). x ++ (0 ∷ [])) e
-    ∙ append-assoc front (identity k) (0 ∷ [])
-    ∙ ap (λ (x : Vector). front ++ x) (replicate-append-replicate k 1 0)
+-- A part of the tail sums to no more than the tail.
+pub total-part : (v : Vector) (k at : ℕ) → at + k ≤ length v → total (drop (at + k) v) ≤ total (drop at v)
+total-part v zero at h =
+    let z : at + 0 ≡ at = omega arith in
+    let e : total (drop (at + 0) v) ≡ total (drop at v) = ap (λ (x : ℕ). total (drop x v)) z in
+    omega arith
+total-part v (suc k) at h =
+    let z : at + suc k ≡ at + 1 + k = omega arith in
+    let e : total (drop (at + suc k) v) ≡ total (drop (at + 1 + k) v) = ap (λ (x : ℕ). total (drop x v)) z in
+    omega (arith, e, total-part v k (at + 1) (omega arith), total-from v at (omega arith))
+
+-- Where it sums to no less, the first entry is 0, and the same holds after it.
+pub total-zeros : (v : Vector) (k at : ℕ) → at + suc k ≤ length v → total (drop at v) ≡ total (drop (at + suc k) v)
+    → (getD v at 0 ≡ 0) × (total (drop (at + 1) v) ≡ total (drop (at + 1 + k) v))
+total-zeros v k at h t =
+    let z : at + suc k ≡ at + 1 + k = omega arith in
+    let e : total (drop (at + suc k) v) ≡ total (drop (at + 1 + k) v) = ap (λ (x : ℕ). total (drop x v)) z in
+    let f = total-from v at (omega arith) in
+    let p = total-part v k (at + 1) (omega arith) in
+    (omega (arith, e, f, p, t), omega (arith, e, f, p, t))
 
 -- Whether a placing reaches the exponent.
 pub reaches : (e a : ℕ) → a + 1 ≡ e → 1 ≡ powerUses e a

@@ -1,13 +1,13 @@
--- Step 2 of a placing: what is put on the stack for the entries above the placed generator.
+-- Step 2 of a placing: what is put on the stack for the entries above the placed generator, which are set to 0.
 --
--- Main definitions: `exchanged`, `exchange`.
+-- Main definitions: `exchanged`, `exchange`, `cleared`.
 use mathlib.Core.Path.{_≡_}
-use mathlib.Core.List.{List, [], _∷_}
+use mathlib.Core.List.{List, [], _∷_, _++_}
 use mathlib.Core.Bool.{true, false}
-use Prim.Native.Nat.{ℕ, zero, suc, _+_, _*_, _≤_, _<_}
-use lib.ListN.{length}
+use Prim.Native.Nat.{ℕ, zero, suc, _+_, _-_, _*_, _≤_, _<_}
+use lib.ListN.{length, take}
 use lib.Dec.{eqb}
-use Rattle.theory.specs.Presentation.{Vector}
+use Rattle.theory.specs.Presentation.{Vector, identity}
 use Rattle.layout.specs.declared.Generator.{Generator}
 use Rattle.layout.specs.declared.Span.{Span}
 use Rattle.layout.specs.Header.{rankOf}
@@ -56,6 +56,10 @@ abbrev pub exchangeSlots : List ℕ → ℕ → ℕ → Vector → List Slot →
 exchangeSlots nums i g [] below = below
 exchangeSlots nums i g (b ∷ v) below =
     entrySlots (spanOf nums (entryAt (rankOf nums) i g)) (record { 0 = g }) b (exchangeSlots nums i (suc g) v below)
+
+-- "set the entry to 0", for each g above i: the vector after step 2.
+abbrev pub cleared : ℕ → Vector → Vector
+cleared i v = take i v ++ identity (length v - i)
 
 -- The workspace ws was made to hold these slots if there is room for them, and r tells: ws′ is the workspace then, with r slots, or r is
 -- more than its room, by not much, and so are the slots.

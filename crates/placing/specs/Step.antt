@@ -36,3 +36,14 @@ step nums left room v slots =
         | false ↦ lead (placingOf nums v slots .vector) (slotsAfter nums v slots) (placingOf nums v slots .exchanges) (placingOf nums v slots .powers)
       ]
     ]
+
+-- The number of the refusal alone, 0 for none, judged as in `step`: `after` is how many slots there are after the placing.
+abbrev pub due : ℕ → ℕ → ℕ → ℕ → ℕ
+due left cost room after =
+    elim (ltb left cost) [
+      | true ↦ 9
+      | false ↦ elim (ltb room after) [
+        | true ↦ 10
+        | false ↦ 0
+      ]
+    ]

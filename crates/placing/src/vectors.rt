@@ -3,15 +3,14 @@ use layout::Generator;
 use layout::View;
 use layout::stretch_of;
 ghost use mathlib.Core.Path.{_≡_};
-ghost use mathlib.Core.List.{_++_};
-ghost use Prim.Native.Nat.{_-_, _≤_};
-ghost use lib.ListN.{length, getD, take, drop};
-ghost use Rattle.theory.specs.Presentation.{identity, Normal};
+ghost use Prim.Native.Nat.{_-_, _≤_, _<_};
+ghost use lib.ListN.{length, getD, drop};
 ghost use Rattle.theory.specs.Placing.{total, powerUses, place};
-ghost use Rattle.layout.specs.Header.{Seen, rankOf};
+ghost use Rattle.layout.specs.Header.{Seen, primeOf, rankOf};
 ghost use Rattle.layout.specs.Judged.{judged};
 ghost use Rattle.layout.specs.Relations.{presentation, settled};
 ghost use Rattle.placing.specs.Settable.{Settable};
+ghost use Rattle.placing.specs.Exchange.{cleared};
 
 // The sum of the entries above generator i: how many exchanges placing it takes.
 pub fn tail_sum(vector: &[u8], i: Generator) -> u32
@@ -27,18 +26,6 @@ pub fn tail_sum(vector: &[u8], i: Generator) -> u32
     sum
 }
 
-// Sets the entries above generator i to 0.
-pub fn clear_tail(vector: &mut [u8], i: Generator)
-    requires { ⌜ i .0 ≤ length (now vector) ⌝ }
-    ensures { λ _. ⌜ now (vector .exit) ≡ take (i .0) (now (vector .entry)) ++ identity (length (now (vector .entry)) - i .0) ⌝ }
-{
-    let mut at = i.0 as usize;
-    while at < vector.len() {
-        vector[at] = 0;
-        at += 1;
-    }
-}
-
 // Sets the exponents of a relation's pairs down, one pair after the other.
 pub fn set_down(vector: &mut [u8], stretch: &[u16])
     requires { ⌜ Settable (length (now vector)) (now stretch) ⌝ }
@@ -52,16 +39,15 @@ pub fn set_down(vector: &mut [u8], stretch: &[u16])
     }
 }
 
-// Steps 2 and 3 of a placing as the vector sees them: the entries above generator i are cleared, entry i is raised by 1, and where it
-// reaches p, w_i is set down.
+// Step 3 of a placing, where the entries above generator i are 0: entry i is raised by 1, and where it reaches p, w_i is set down.
 pub fn raise(numbers: &[u16], view: View, vector: &mut [u8], i: Generator)
     requires { ⌜ judged (now numbers) ≡ 0 ⌝ }
     requires { ⌜ Seen (now numbers) view ⌝ }
-    requires { ⌜ (1 ≤ i .0) × (i .0 ≤ rankOf (now numbers)) ⌝ }
-    requires { ⌜ Normal (presentation (now numbers)) (rankOf (now numbers)) 1 (now vector) ⌝ }
+    requires { ⌜ (1 ≤ i .0) × (i .0 ≤ rankOf (now numbers)) × (length (now vector) ≡ rankOf (now numbers)) ⌝ }
+    requires { ⌜ getD (now vector) (i .0 - 1) 0 < primeOf (now numbers) ⌝ }
+    requires { ⌜ now vector ≡ cleared (i .0) (now vector) ⌝ }
     ensures { λ _. ⌜ now (vector .exit) ≡ place (presentation (now (numbers .entry))) 1 (now (vector .entry)) (i .0) .vector ⌝ }
 {
-    clear_tail(vector, i);
     let at = i.0 as usize - 1;
     let a = vector[at] + 1;
     if a as u16 != view.prime.0 {

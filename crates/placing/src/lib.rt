@@ -108,20 +108,10 @@ pub fn place(
         (now (vector .exit)) (now (work .exit)) r ⌝ }
 {
     let i = peek(bodies, word, work, depth);
-    let exchanges = tail_sum(vector, i);
+    let sum = tail_sum(vector, i);
     let powers = power_uses(vector, view, i);
-    let after = slots_after(
-        numbers,
-        view,
-        bodies,
-        vector,
-        word,
-        i,
-        exchanges,
-        work,
-        depth,
-    );
-    let number = number_of(left, exchanges + powers, room(work), after);
+    let after = slots_after(numbers, view, bodies, vector, word, i, sum, work, depth);
+    let number = number_of(left, sum + powers, room(work), after);
     if number != 0 {
         return refusal(number);
     }
@@ -129,7 +119,7 @@ pub fn place(
     Placement {
         number: 0,
         depth: after,
-        exchanges,
+        exchanges: sum,
         powers,
     }
 }

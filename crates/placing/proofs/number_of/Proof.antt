@@ -17,15 +17,15 @@ use Rattle.placing.proofs.number_of.Lts as lts
 
 -- src/lib.rt:57:9
 returns : tie.Need-returns
-returns c = rw (lt-ltb _ _ (c .if1 .taken), due) refl
+returns c = simp (lt-ltb, le-ltb, lt-leb, le-leb, due, c .if1 .taken)
 
 -- src/lib.rt:60:9
 returns-2 : tie.Need-returns-2
-returns-2 c = rw (le-ltb _ _ (c .before .if1 .left), lt-ltb _ _ (c .if2 .taken), due) refl
+returns-2 c = simp (lt-ltb, le-ltb, lt-leb, le-leb, due, c .before .if1 .left, c .if2 .taken)
 
 -- src/lib.rt:53:1
 returns-3 : tie.Need-returns-3
-returns-3 c = rw (le-ltb _ _ (c .before .if1 .left), le-ltb _ _ (c .if2 .left), due) refl
+returns-3 c = simp (lt-ltb, le-ltb, lt-leb, le-leb, due, c .before .if1 .left, c .if2 .left)
 
 pub number-of-spec : {M : Type 1} → statement M
 number-of-spec = tie.close (tie.spec returns returns-2 returns-3)

@@ -30,9 +30,12 @@ Inv-loop numbers view vector₀ sum work₀ depth row low left₀ d₀ at₀ vec
 abbrev μ-loop : tie.MeasureT-loop
 μ-loop numbers view vector₀ sum work₀ depth row low left₀ d₀ at₀ vector work left d at = at
 
--- What is known in a turn: there is an entry before those that are met, a byte, and part of what is left.
+-- What is known in a turn: something is left, so there is an entry before those that are met, a byte, and part of what is left.
+some : (c : tie.In-loop Inv-loop μ-loop) → c .before .loop .left ≡ 0 → ⊥
+some c z = omega (arith, z, c .loop-test .taken)
+
 more : (c : tie.In-loop Inv-loop μ-loop) → c .before .before .before .before .before .before .before .args .i .0 < c .before .loop .at
-more c = met-more (c .before .loop .inv .1) (c .loop-test .taken)
+more c = met-more (c .before .loop .inv .1) (some c)
 
 long : (c : tie.At-loop Inv-loop μ-loop) → length (c .loop .vector) ≡ length (now (c .before .before .before .before .before .before .args .vector))
 long c = met-length (c .loop .inv .1)
@@ -41,7 +44,7 @@ byte : (c : tie.After-slice-known3 Inv-loop μ-loop) → getD (c .before .before
 byte c = omega (arith, c .slice-known3 .given (c .before .before .loop .at - 1))
 
 part : (c : tie.In-loop Inv-loop μ-loop) → getD (c .before .loop .vector) (c .before .loop .at - 1) 0 ≤ c .before .loop .left
-part c = met-part (c .before .loop .inv .1) (c .loop-test .taken)
+part c = met-part (c .before .loop .inv .1) (some c)
 
 -- src/entries.rt:94:9
 row-of-requires : tie.Need-row-of-requires Inv-loop μ-loop
@@ -135,12 +138,12 @@ row-is c = c .row-of .ensures .0 ∙ ap (λ (x : ℕ). rowAt x (c .before .befor
 -- src/entries.rt:107:29
 mul-if2 : tie.Need-mul-if2 Inv-loop μ-loop
 mul-if2 c =
-    let n = met-near (c .before .before .before .before .before .before .before .before .loop .inv .1) (c .before .before .before .before .before .before .before .loop-test .taken) (row-is (c .before .before .before .before .before .before .before .before .before .before)) (c .before .before .before .before .span-at .ensures) (c .before .before .put-entry .ensures) (byte (c .before .before .before .before .before .before)) in
+    let n = met-near (c .before .before .before .before .before .before .before .before .loop .inv .1) (some (c .before .before .before .before .before .before .before)) (row-is (c .before .before .before .before .before .before .before .before .before .before)) (c .before .before .before .before .span-at .ensures) (c .before .before .put-entry .ensures) (byte (c .before .before .before .before .before .before)) in
     omega (arith, n, c .before .before .before .before .before .before .before .before .loop .inv .0)
 
 -- src/entries.rt:108:17
 same-length : tie.Need-same-length Inv-loop μ-loop
-same-length c = length-set (c .before .before .before .before .before .before .before .before .before .loop .vector) (c .before .before .before .before .before .before .before .before .before .loop .at - 1) 0 ∙ long (c .before .before .before .before .before .before .before .before .before)
+same-length c = rw length-set (long (c .before .before .before .before .before .before .before .before .before))
 
 -- src/entries.rt:108:17
 same-length-2 : tie.Need-same-length-2 Inv-loop μ-loop
@@ -150,15 +153,15 @@ same-length-2 c = search needs
 returns : tie.Need-returns Inv-loop μ-loop
 returns c =
     let l = c .before .before .before .before .before .before .before .before .before .loop in
-    let some = c .before .before .before .before .before .before .before .before .loop-test .taken in
+    let left = some (c .before .before .before .before .before .before .before .before) in
     let row = row-is (c .before .before .before .before .before .before .before .before .before .before .before) in
     let spans = c .before .before .before .before .before .span-at .ensures in
     let put = c .before .before .before .put-entry .ensures in
-    let n = met-near (l .inv .1) some row spans put (byte (c .before .before .before .before .before .before .before)) in (
+    let n = met-near (l .inv .1) left row spans put (byte (c .before .before .before .before .before .before .before)) in (
       record {
         kept = put .kept ∙ l .inv .0;
         fits = λ room. absurd (omega (arith, c .if2 .taken, room, put .kept, l .inv .0));
-        over = λ full. let o = met-over (l .inv .1) some row spans put (omega (arith, full, l .inv .0)) in omega (arith, o, l .inv .0);
+        over = λ full. let o = met-over (l .inv .1) left row spans put (omega (arith, full, l .inv .0)) in omega (arith, o, l .inv .0);
         near = omega (arith, n, l .inv .0);
       },
       λ room. absurd (omega (arith, c .if2 .taken, room, put .kept, l .inv .0)),
@@ -174,7 +177,7 @@ loop-again c =
     let l = c .before .before .before .before .before .before .before .before .before .loop in
     let put = c .before .before .before .put-entry .ensures in (
       put .kept ∙ l .inv .0,
-      met-put (l .inv .1) (c .before .before .before .before .before .before .before .before .loop-test .taken) (row-is (c .before .before .before .before .before .before .before .before .before .before .before)) (c .before .before .before .before .before .span-at .ensures) put (omega (arith, c .if2 .left, put .kept)),
+      met-put (l .inv .1) (some (c .before .before .before .before .before .before .before .before)) (row-is (c .before .before .before .before .before .before .before .before .before .before .before)) (c .before .before .before .before .before .span-at .ensures) put (omega (arith, c .if2 .left, put .kept)),
     )
 
 -- src/entries.rt:99:5
@@ -184,7 +187,7 @@ loop-less-2 c = search needs
 -- src/entries.rt:99:5
 loop-again-2 : tie.Need-loop-again-2 Inv-loop μ-loop
 loop-again-2 c =
-    let l = c .before .before .before .loop in (l .inv .0, met-zero (l .inv .1) (c .before .before .loop-test .taken) (c .if1 .left))
+    let l = c .before .before .before .loop in (l .inv .0, met-zero (l .inv .1) (some (c .before .before)) (omega (arith, c .if1 .left)))
 
 -- src/entries.rt:74:1
 same-length-3 : tie.Need-same-length-3 Inv-loop μ-loop
@@ -198,7 +201,7 @@ same-length-4 c = search needs
 returns-2 : tie.Need-returns-2 Inv-loop μ-loop
 returns-2 c =
     let l = c .before .loop in
-    let none = c .loop-test .left in (
+    let none : l .left ≡ 0 = omega (arith, c .loop-test .left) in (
       record {
         kept = l .inv .0;
         fits = λ room. met-slots (l .inv .1) none;

@@ -7,3 +7,4 @@ pub mod Deciding
 pub mod Seeking
 pub mod Checking
 pub mod Padding
+pub mod Refusals

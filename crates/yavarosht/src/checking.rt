@@ -6,8 +6,8 @@ use consistency::Verdict;
 use consistency::check;
 ghost use mathlib.Core.Path.{_≡_};
 ghost use mathlib.Core.List.{_∷_};
-ghost use Rattle.consistency.specs.Verdict.{familyOf, generatorsOf};
-ghost use Rattle.yavarosht.specs.Verdict.{verdictNumber, verdictOverlap, HandedVerdict};
+ghost use Rattle.consistency.specs.Verdict.{familyOf, generatorsOf, valuesOf};
+ghost use Rattle.yavarosht.specs.Verdict.{verdictNumber, HandedVerdict};
 
 // What DIFFERS is given back as: the first number past the refusals.
 const DIFFERS: u8 = 11;
@@ -40,7 +40,7 @@ fn overlap_numbers(overlap: Overlap) -> [u16; 4]
 
 // The overlap of a verdict, all 0 where it has none.
 fn verdict_overlap(verdict: Verdict) -> [u16; 4]
-    ensures { λ r. ⌜ r ≡ verdictOverlap verdict ⌝ }
+    ensures { λ r. ⌜ r ≡ valuesOf verdict ⌝ }
 {
     match verdict {
         Verdict::Pass => [0, 0, 0, 0],

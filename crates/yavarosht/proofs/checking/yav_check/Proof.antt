@@ -2,7 +2,8 @@
 use borrow.Author.Needs.{needs}
 use mathlib.Core.Path.{ap, _∙_}
 use Rattle.consistency.specs.declared.Checked.{Checked}
-use Rattle.yavarosht.specs.Verdict.{verdictNumber, verdictOverlap}
+use Rattle.consistency.specs.Verdict.{valuesOf}
+use Rattle.yavarosht.specs.Verdict.{verdictNumber}
 use Rattle.yavarosht.proofs.checking.yav_check.Statement.{statement}
 use Rattle.yavarosht.proofs.checking.yav_check.Tie as tie
 
@@ -15,7 +16,7 @@ returns c =
     let answer = checked c .check .ensures .0 in
     record {
       number-is = c .verdict-number .ensures ∙ ap (λ (a : Checked). verdictNumber (a .verdict)) answer;
-      overlap-is = c .before .verdict-overlap .ensures ∙ ap (λ (a : Checked). verdictOverlap (a .verdict)) answer;
+      overlap-is = c .before .verdict-overlap .ensures ∙ ap (λ (a : Checked). valuesOf (a .verdict)) answer;
       left-is = ap (λ (a : Checked). a .left) answer;
       right-is = ap (λ (a : Checked). a .right) answer;
       work-is = checked c .check .ensures .1;

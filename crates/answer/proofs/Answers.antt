@@ -1,7 +1,7 @@
 -- The steps from a file's bytes to the line, as the code takes them.
 --
 -- Main laws: `answered-no`, `answered-yes`, `few-bytes`, `line-is`.
-use mathlib.Core.Path.{_≡_, refl, sym, ap, _∙_}
+use mathlib.Core.Path.{_≡_, ap, _∙_}
 use mathlib.Core.List.{List}
 use mathlib.Core.Bool.{Bool, true, false, _&&_}
 use Prim.Native.Nat.{ℕ, _%_, _≤_, _<_}

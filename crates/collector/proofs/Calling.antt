@@ -2,9 +2,9 @@
 --
 -- Main results: `number-refused`, `number-vector`, `number-accepted`; `call-closes`.
 use mathlib.Core.Path.{_≡_, refl, sym, ap, _∙_, subst}
-use mathlib.Core.List.{List, [], _∷_, map}
+use mathlib.Core.List.{List, map}
 use mathlib.Core.Bool.{Bool, true, false, cond}
-use Prim.Native.Nat.{ℕ, zero, suc, _+_, _-_, _*_, _/_, _≤_, _<_}
+use Prim.Native.Nat.{ℕ, _/_}
 use native.Mathlib.Omega.{arith}
 use lib.ListN.{length, replicate}
 use lib.Dec.{eqb}
@@ -18,7 +18,7 @@ use Rattle.slots.specs.declared.Slot.{Slot}
 use Rattle.slots.specs.Pieces.{Piece, meaning, AllWellFormed}
 use Rattle.placing.specs.Ready.{Ground}
 use Rattle.collector.specs.declared.Answer.{Answer}
-use Rattle.collector.specs.Run.{Outcome, begun}
+use Rattle.collector.specs.Run.{begun}
 use Rattle.collector.specs.Inputs.{vectorRight, wordRight, wordSlots, powerSlots}
 use Rattle.collector.specs.Running.{Tells, Settled, Answers}
 use Rattle.collector.specs.Starting.{Held}

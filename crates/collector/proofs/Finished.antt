@@ -1,24 +1,23 @@
 -- What an outcome is good for: DONE with a normal vector and a count within the budget, or a number that is not 0.
 --
 -- Main results: `begun-fine`, `turned-fine`, `inverting-fine`; `tells-done`, `tells-refused`; `closes`.
-use mathlib.Core.Path.{_≡_, refl, sym, ap, _∙_, subst}
+use mathlib.Core.Path.{_≡_, refl, sym, ap, _∙_}
 use mathlib.Core.List.{List, [], _∷_}
 use mathlib.Core.Bool.{Bool, true, false, cond}
-use Prim.Native.Nat.{ℕ, zero, suc, _+_, _-_, _*_, _/_, _≤_, _<_}
+use Prim.Native.Nat.{ℕ, zero, suc, _+_, _-_, _≤_, _<_}
 use native.Mathlib.Omega.{arith}
 use lib.ListN.{length, getD, replicate}
 use lib.Dec.{ltb, eqb}
-use borrow.Author.Tests.{eq-eqb, ne-eqb, eqb-false}
-use Rattle.theory.specs.Presentation.{Presentation, Vector, Normal, Valid}
+use borrow.Author.Tests.{eq-eqb, ne-eqb}
+use Rattle.theory.specs.Presentation.{Vector, Normal}
 use Rattle.layout.specs.Header.{rankOf, exponentOf}
 use Rattle.layout.specs.Judged.{judged}
 use Rattle.layout.specs.Relations.{presentation}
 use Rattle.layout.proofs.Valid.{valid}
 use Rattle.slots.specs.Pieces.{Piece, power, AllWellFormed}
-use Rattle.placing.specs.Step.{refuse, lead}
 use Rattle.theory.proofs.Arrays.{normal-at}
 use Rattle.collector.specs.declared.Answer.{Answer}
-use Rattle.collector.specs.Run.{Outcome, done, refused, Runs, ends, stops, goes, outcome, begun}
+use Rattle.collector.specs.Run.{Outcome, done, refused, Runs, ends, stops, goes, begun}
 use Rattle.collector.specs.Running.{Tells}
 use Rattle.collector.specs.Calls.{behind, turned, inverting, closed, Leaves}
 use Rattle.collector.proofs.Grounding.{relation-formed}

@@ -12,14 +12,13 @@ use lib.Seq.{drop-cons}
 use lib.Dec.{ltb}
 use borrow.Author.Tests.{ltb-true, ltb-false, lt-ltb, le-ltb}
 use Rattle.theory.specs.Presentation.{Vector, Normal}
-use Rattle.layout.specs.declared.Generator.{Generator}
 use Rattle.layout.specs.declared.View.{View}
 use Rattle.layout.specs.Header.{rankOf}
 use Rattle.layout.specs.Relations.{presentation}
 use Rattle.slots.specs.declared.Slot.{Slot}
 use Rattle.slots.specs.declared.Slot.the-variants.{Input}
-use Rattle.slots.specs.Slots.{stack, powerOf, Pushed}
-use Rattle.slots.specs.Pieces.{Piece, meaning, pieces}
+use Rattle.slots.specs.Slots.{powerOf}
+use Rattle.slots.specs.Pieces.{meaning, pieces}
 use Rattle.slots.specs.Stacked.{Sources, AllStanding, Stacked}
 use Rattle.collector.specs.Run.{Outcome, refused, outcome, begun}
 use Rattle.placing.specs.Ready.{Ground}

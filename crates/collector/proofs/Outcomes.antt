@@ -6,18 +6,18 @@
 --   `runs-collects`    DONE is collecting, as the theory has it, with its count
 --   `runs-larger`      DONE stays under a larger budget or room
 use mathlib.Core.Path.{_≡_, refl, sym, ap, ap₂, _∙_, subst, subst₂}
-use mathlib.Core.List.{List, [], _∷_, _++_}
+use mathlib.Core.List.{List, [], _∷_}
 use mathlib.Core.Bool.{Bool, true, false}
 use Prim.Native.Nat.{ℕ, zero, suc, _+_, _-_, _*_, _≤_, _<_}
 use native.Mathlib.Omega.{arith}
 use native.Mathlib.Nat.{mul-add}
 use lib.ListN.{length, length-append, drop}
 use lib.Dec.{ltb}
-use borrow.Author.Tests.{ltb-true, ltb-false, le-ltb}
+use borrow.Author.Tests.{ltb-false, le-ltb}
 use Rattle.theory.specs.Presentation.{Presentation, Word, Vector, spell, Normal, Over, Valid}
-use Rattle.theory.specs.Placing.{Placed, cost, conjugates, total, place, Collects, done as placed-all, next}
+use Rattle.theory.specs.Placing.{Placed, cost, conjugates, Collects, done as placed-all, next}
 use Rattle.theory.proofs.Words.{spell-over, normal-length}
-use Rattle.theory.proofs.Collecting.{Level, whole, place-normal}
+use Rattle.theory.proofs.Collecting.{whole, place-normal}
 use Rattle.theory.proofs.Arrays.{place-is, drop-normal, spell-length, conjugate-length, conjugates-length}
 use Rattle.layout.specs.Header.{primeOf, rankOf}
 use Rattle.layout.specs.Contents.{stretchOf}
@@ -25,8 +25,8 @@ use Rattle.layout.specs.Relations.{presentation}
 use Rattle.slots.specs.Pieces.{Piece, letters, leading, taken, Pairs, AllWellFormed}
 use Rattle.slots.proofs.Letters.{letters-taken, leading-one}
 use Rattle.placing.specs.Step.{Step, refuse, lead, step, placingOf, slotsAfter}
-use Rattle.placing.proofs.Spelled.{letters-after, formed-after, pieces-over}
-use Rattle.collector.specs.Run.{Outcome, done, refused, Runs, ends, stops, goes, run, enough, outcome, begun}
+use Rattle.placing.proofs.Spelled.{letters-after, formed-after}
+use Rattle.collector.specs.Run.{Outcome, done, refused, Runs, ends, stops, goes, run, enough, outcome}
 
 -- What a step that leads on says: the budget and the room allow it, and where it leads.
 pub record Leads (nums : List ℕ) (left room : ℕ) (v : Vector) (slots : List Piece) (v' : Vector) (after : List Piece) (e p : ℕ) : Type 0 where

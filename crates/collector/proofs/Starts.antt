@@ -1,16 +1,15 @@
 -- What the starting slots of the calls stand for.
 --
 -- Main results: `word-start-means`, `word-start-standing`, `power-start-means`, `power-start-standing`.
-use mathlib.Core.Path.{_≡_, refl, sym, ap, _∙_, subst}
+use mathlib.Core.Path.{_≡_, refl, ap}
 use mathlib.Core.List.{List, [], _∷_, map}
-use Prim.Native.Nat.{ℕ, zero, suc, _+_, _-_, _*_, _/_, _≤_, _<_}
+use Prim.Native.Nat.{ℕ, zero, suc, _+_, _*_, _/_, _≤_}
 use native.Mathlib.Omega.{arith}
-use lib.ListN.{length, take, drop}
+use lib.ListN.{length}
 use lib.Seq.{take-all}
 use Rattle.theory.specs.Presentation.{Vector}
-use Rattle.slots.specs.declared.Slot.{Slot}
 use Rattle.slots.specs.Pieces.{Piece, power, string, meaning, Pairs}
-use Rattle.slots.specs.Stacked.{Inside, AllStanding}
+use Rattle.slots.specs.Stacked.{AllStanding}
 use Rattle.collector.specs.Inputs.{wordSlots, powerSlots}
 use Rattle.collector.specs.Starting.{wordStart, powerStart}
 

@@ -1,14 +1,14 @@
 -- One turn of the run: what a placing's answer says of the step, and what it leaves to be run.
 --
 -- Main results: `Started`, `started`, `turn-on`, `turn-off`, `turn-end`, `turn-falls`.
-use mathlib.Core.Path.{_≡_, refl, sym, ap, ap₂, _∙_, subst}
+use mathlib.Core.Path.{_≡_, refl, sym, ap, _∙_, subst}
 use mathlib.Core.List.{List, [], _∷_}
 use mathlib.Core.Bool.{Bool, true, false}
-use Prim.Native.Nat.{ℕ, zero, suc, _+_, _-_, _*_, _/_, _≤_, _<_}
+use Prim.Native.Nat.{ℕ, _+_, _-_, _*_, _/_, _≤_, _<_}
 use native.Mathlib.Omega.{arith}
 use lib.ListN.{length}
 use lib.Dec.{ltb}
-use Rattle.theory.specs.Presentation.{Presentation, Vector, Normal, Valid}
+use Rattle.theory.specs.Presentation.{Vector, Normal}
 use Rattle.theory.specs.Placing.{cost}
 use Rattle.theory.proofs.Words.{normal-length}
 use Rattle.layout.specs.declared.View.{View}
@@ -22,9 +22,8 @@ use Rattle.slots.specs.Stacked.{Stacked}
 use Rattle.slots.proofs.Stacks.{length-pieces, all-well-formed}
 use Rattle.placing.specs.declared.Placement.{Placement}
 use Rattle.placing.specs.Step.{Step, refuse, lead, step, placingOf, slotsAfter}
-use Rattle.placing.specs.Ready.{Ground, Ready, Steps}
+use Rattle.placing.specs.Ready.{Ground, Steps}
 use Rattle.placing.specs.Ready.{Tells as Says}
-use Rattle.collector.specs.declared.Answer.{Answer}
 use Rattle.collector.specs.Run.{Outcome, done, refused, Runs, ends, stops, goes, outcome}
 use Rattle.collector.specs.Running.{Begins, Tells, Ran}
 use Rattle.collector.proofs.Grounding.{relation-formed}

@@ -6,20 +6,20 @@
 --   `collect-by-rules`, `product-by-rules`                 demand 2, for DONE, 9 and 10 alike: the call answers what the placing rules say
 --   `collect-larger`, `product-larger`, `inverse-larger`   demand 3: a larger budget or room never changes an accepted answer
 --   `collect-work`, `product-work`, `inverse-work`         what the workspace held at entry never matters
-use mathlib.Core.Path.{_≡_, refl, sym, ap, ap₂, _∙_, subst}
-use mathlib.Core.List.{List, [], _∷_, _++_}
-use mathlib.Core.Option.{Option, none, some}
+use mathlib.Core.Path.{_≡_, refl, sym, ap, _∙_, subst}
+use mathlib.Core.List.{List, _++_}
+use mathlib.Core.Option.{some}
 use mathlib.Core.Bool.{Bool, true, false}
-use Prim.Native.Nat.{ℕ, zero, suc, _+_, _-_, _*_, _/_, _≤_, _<_}
+use Prim.Native.Nat.{ℕ, _/_, _≤_}
 use native.Mathlib.Omega.{arith}
-use lib.ListN.{length, replicate}
-use lib.Dec.{ltb, eqb}
-use borrow.Author.Tests.{le-ltb, lt-ltb, eqb-true, eqb-false}
-use Rattle.theory.specs.Presentation.{Presentation, Word, Vector, spell, identity, Normal}
-use Rattle.theory.specs.Replacement.{leftmost, steps}
-use Rattle.theory.specs.Placing.{Collects, collect, product, invert}
+use lib.ListN.{length}
+use lib.Dec.{eqb}
+use borrow.Author.Tests.{le-ltb, eqb-true, eqb-false}
+use Rattle.theory.specs.Presentation.{Presentation, Word, Vector, spell, Normal}
+use Rattle.theory.specs.Replacement.{steps}
+use Rattle.theory.specs.Placing.{collect, product}
 use Rattle.theory.proofs.Words.{spell-over, spell-identity}
-use Rattle.theory.proofs.Collecting.{Level, whole, collects-to, collect-normal}
+use Rattle.theory.proofs.Collecting.{whole, collects-to, collect-normal}
 use Rattle.theory.proofs.Leftmost.{collected-steps, normal-ends}
 use Rattle.theory.proofs.Inverse.{invert-normal, invert-clears, invert-only}
 use Rattle.layout.specs.Header.{rankOf}
@@ -30,8 +30,8 @@ use Rattle.layout.proofs.Valid.{valid}
 use Rattle.slots.specs.Pieces.{Piece, letters, AllWellFormed}
 use Rattle.placing.proofs.Spelled.{pieces-over}
 use Rattle.collector.specs.Inputs.{vectorRight, wordRight, wordSlots, powerSlots}
-use Rattle.collector.specs.Run.{Outcome, done, refused, Runs, outcome, begun}
-use Rattle.collector.specs.Calls.{Left, closed, untouched, roomOf, vectorNumber, inverting, collectCall, productCall, inverseCall, judgedFirst, vectorFirst, wordFirst}
+use Rattle.collector.specs.Run.{Outcome, done, refused, Runs, begun}
+use Rattle.collector.specs.Calls.{Left, closed, untouched, roomOf, vectorNumber, inverting, collectCall, productCall, inverseCall, judgedFirst, vectorFirst}
 use Rattle.collector.proofs.Judging.{vector-normal, word-formed, word-letters, power-formed, power-letters}
 use Rattle.collector.proofs.Outcomes.{outcome-is}
 use Rattle.collector.proofs.Calling.{Accepts, accepted-first, refused-first, go-first, word-accepted, word-refused, right-accepted, right-refused}

@@ -1,10 +1,10 @@
 -- What consistency gives the calls: demand 3, of a presentation whose overlaps all agree.
 --
 -- Main results: `joined-alike`, `products-associate`.
-use mathlib.Core.Path.{_≡_, refl, sym, ap, ap₂, _∙_, subst}
+use mathlib.Core.Path.{_≡_, sym, ap, _∙_}
 use mathlib.Core.List.{List}
 use Prim.Native.Nat.{ℕ}
-use Rattle.theory.specs.Presentation.{Vector, Normal, identity}
+use Rattle.theory.specs.Presentation.{Vector}
 use Rattle.theory.specs.Placing.{product}
 use Rattle.theory.specs.Joined.{Joined}
 use Rattle.theory.specs.Overlaps.{Consistent}

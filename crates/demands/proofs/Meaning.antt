@@ -2,19 +2,19 @@
 -- budget or room.
 --
 -- Main results: `begun-collects`, `begun-larger`; `inverting-clears`, `inverting-larger`.
-use mathlib.Core.Path.{_≡_, refl, sym, ap, ap₂, _∙_, subst, subst₂}
-use mathlib.Core.List.{List, [], _∷_, _++_, append-nil, append-assoc, tail}
+use mathlib.Core.Path.{_≡_, refl, sym, ap, _∙_, subst, subst₂}
+use mathlib.Core.List.{List, [], _∷_, _++_, append-nil, tail}
 use mathlib.Core.Bool.{Bool, true, false}
-use Prim.Native.Nat.{ℕ, zero, suc, _+_, _-_, _*_, _≤_, _<_}
+use Prim.Native.Nat.{ℕ, zero, suc, _+_, _-_, _≤_, _<_}
 use native.Mathlib.Omega.{arith}
 use lib.ListN.{length, getD, replicate}
 use lib.Dec.{ltb, eqb}
-use borrow.Author.Tests.{ltb-true, ltb-false, le-ltb, eqb-true, eqb-false}
+use borrow.Author.Tests.{ltb-false, le-ltb, eqb-true, eqb-false}
 use Rattle.theory.specs.Presentation.{Presentation, Word, Vector, spell, identity, Normal, Over}
 use Rattle.theory.specs.Placing.{Collects, done as placed-all, collect, complement, invert}
-use Rattle.theory.proofs.Words.{over-block, normal-length, over-weaken}
-use Rattle.theory.proofs.Collecting.{Level, above, whole, collects-append, collects-to, collect-normal}
-use Rattle.theory.proofs.Inverse.{turned as turned-entry, block-left, complement-clears, above-normal}
+use Rattle.theory.proofs.Words.{over-block, over-weaken}
+use Rattle.theory.proofs.Collecting.{Level, above, whole, collects-append, collects-to}
+use Rattle.theory.proofs.Inverse.{block-left, complement-clears, above-normal}
 use Rattle.theory.proofs.Arrays.{collect-deep, normal-at}
 use Rattle.layout.specs.Header.{primeOf, rankOf, exponentOf}
 use Rattle.layout.specs.Contents.{stretchOf}
@@ -22,7 +22,6 @@ use Rattle.layout.specs.Judged.{judged}
 use Rattle.layout.specs.Relations.{presentation}
 use Rattle.layout.proofs.Valid.{valid}
 use Rattle.slots.specs.Pieces.{Piece, power, letters, Pairs, AllWellFormed}
-use Rattle.placing.proofs.Spelled.{pieces-over}
 use Rattle.collector.specs.Run.{Outcome, done, refused, Runs, outcome, begun}
 use Rattle.collector.specs.Calls.{turned, inverting, behind}
 use Rattle.collector.proofs.Outcomes.{runs-outcome, runs-collects, runs-larger, outcome-is}

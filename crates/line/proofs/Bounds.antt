@@ -3,7 +3,7 @@
 -- Main laws: `few-overlaps`, `pairs-fit`, `triples-fit`, `printed`.
 use mathlib.Core.Path.{_≡_, refl, sym, ap, _∙_}
 use mathlib.Core.List.{List}
-use Prim.Native.Nat.{ℕ, zero, suc, _+_, _*_, _-_, _/_, _≤_, _<_, min}
+use Prim.Native.Nat.{ℕ, zero, suc, _*_, _-_, _≤_, _<_, min}
 use native.Mathlib.Omega.{arith, min-cases}
 use native.Mathlib.Nat.{mul-le-mul}
 use lib.ListN.{length, take}

@@ -1,9 +1,9 @@
 -- Setting the entries of a vector to 0 from the last down: what step 2 keeps of the vector.
 --
 -- Main results: `cleared-entry`, `cleared-next`, `cleared-zeros`.
-use mathlib.Core.Path.{_≡_, refl, sym, ap, _∙_}
-use mathlib.Core.List.{List, [], _∷_, _++_, append-assoc, append-nil}
-use Prim.Native.Nat.{ℕ, zero, suc, _+_, _-_, _≤_, _<_}
+use mathlib.Core.Path.{_≡_, sym, ap, _∙_}
+use mathlib.Core.List.{[], _∷_, _++_, append-assoc, append-nil}
+use Prim.Native.Nat.{ℕ, zero, suc, _+_, _-_, _≤_}
 use native.Mathlib.Omega.{arith}
 use lib.ListN.{length, getD, set, take, drop, length-append, length-replicate}
 use lib.Seq.{take-suc, take-all, take-at, length-take-le, set-at, getD-at}

@@ -1,7 +1,7 @@
 -- Setting down pairs, by index: what the loop over a relation's pairs keeps; and the pairs that accepted numbers hold can be set down.
 --
 -- Main results: `settable-front`, `settled-front`, `settled-end`, `settable`.
-use mathlib.Core.Path.{_≡_, refl, sym, ap, _∙_, subst}
+use mathlib.Core.Path.{_≡_, refl, ap, subst}
 use mathlib.Core.List.{List, [], _∷_}
 use Prim.Native.Nat.{ℕ, zero, suc, _+_, _-_, _≤_, _<_}
 use native.Mathlib.Omega.{arith}

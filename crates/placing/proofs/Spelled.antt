@@ -2,25 +2,24 @@
 -- theory's placing puts, followed by the rest.
 --
 -- Main results: `letters-exchange`, `letters-after`, `formed-after`, `pieces-over`.
-use mathlib.Core.Path.{_≡_, refl, sym, ap, ap₂, _∙_, subst}
-use mathlib.Core.List.{List, [], _∷_, _++_, append-assoc, append-nil}
+use mathlib.Core.Path.{_≡_, refl, sym, ap, ap₂, _∙_}
+use mathlib.Core.List.{List, [], _∷_, _++_, append-assoc}
 use mathlib.Core.Bool.{Bool, true, false}
-use Prim.Native.Nat.{ℕ, zero, suc, _+_, _-_, _*_, _≤_, _<_}
+use Prim.Native.Nat.{ℕ, zero, suc, _+_, _-_, _≤_, _<_}
 use native.Mathlib.Omega.{arith}
-use lib.ListN.{length, getD, take, drop, replicate, length-drop}
-use lib.Seq.{drop-drop}
+use lib.ListN.{length, drop, replicate, length-drop}
 use lib.Dec.{ltb}
 use borrow.Author.Tests.{ltb-true}
-use Rattle.theory.specs.Presentation.{Presentation, Word, Vector, spell, Normal, Over, Valid}
-use Rattle.theory.specs.Placing.{Placed, conjugates, place}
+use Rattle.theory.specs.Presentation.{Presentation, Word, Vector, spell, Over}
+use Rattle.theory.specs.Placing.{Placed, conjugates}
 use Rattle.theory.proofs.Words.{conjugates-append, over-append, over-block}
 use Rattle.theory.proofs.Arrays.{place-is}
 use Rattle.layout.specs.Header.{rankOf}
 use Rattle.layout.specs.Contents.{stretchOf}
 use Rattle.layout.specs.Relations.{presentation}
 use Rattle.slots.specs.Slots.{onTop, lessened}
-use Rattle.slots.specs.Pieces.{Piece, power, string, letters, pairLetters, unread, leading, taken, Pairs, WellFormed, AllWellFormed}
-use Rattle.slots.proofs.Letters.{letters-taken, leading-one}
+use Rattle.slots.specs.Pieces.{Piece, power, string, letters, pairLetters, unread, leading, taken, Pairs, AllWellFormed}
+use Rattle.slots.proofs.Letters.{leading-one}
 use Rattle.placing.specs.Exchange.{copies, exchanged, exchange}
 use Rattle.placing.specs.Step.{placingOf, slotsAfter}
 

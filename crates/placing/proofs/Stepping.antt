@@ -9,19 +9,17 @@ use native.Mathlib.Omega.{arith}
 use lib.ListN.{length, getD, drop, length-drop, length-map}
 use lib.Dec.{ltb}
 use borrow.Author.Tests.{lt-ltb, le-ltb}
-use Rattle.theory.specs.Presentation.{Presentation, Vector, Normal}
+use Rattle.theory.specs.Presentation.{Vector}
 use Rattle.theory.specs.Placing.{Placed, total, powerUses, cost, place}
 use Rattle.theory.proofs.Words.{normal-length}
 use Rattle.theory.proofs.Arrays.{placedAt, place-is}
 use Rattle.layout.specs.declared.View.{View}
-use Rattle.layout.specs.Header.{Seen, primeOf, rankOf, bodiesAt}
+use Rattle.layout.specs.Header.{primeOf, rankOf}
 use Rattle.layout.specs.Contents.{stretchOf}
 use Rattle.layout.specs.Relations.{presentation}
-use Rattle.slots.specs.declared.Slot.{Slot}
 use Rattle.slots.specs.Slots.{stack, onTop, lessened}
 use Rattle.slots.specs.Pieces.{Piece, power, string, meaning, pieces, leading, taken}
 use Rattle.slots.specs.Stacked.{Stacked, Took}
-use Rattle.slots.proofs.Stores.{length-stack}
 use Rattle.slots.proofs.Stacks.{length-pieces, leading-top}
 use Rattle.placing.specs.Exchange.{exchanged, exchange, copies, exchangeSlots, cleared, Filled}
 use Rattle.placing.specs.Step.{Step, refuse, lead, due, step, placingOf, slotsAfter}

@@ -2,14 +2,14 @@
 --
 -- Main results: `place-is`, one placing by the index of its entry; `conjugate-length` and `conjugates-length`, bounds of the letters
 -- that a placing puts.
-use mathlib.Core.Path.{_≡_, refl, sym, ap, ap₂, _∙_, subst, subst₂}
-use mathlib.Core.List.{List, [], _∷_, _++_}
+use mathlib.Core.Path.{_≡_, refl, ap, ap₂, _∙_, subst, subst₂}
+use mathlib.Core.List.{[], _∷_, _++_}
 use Prim.Native.Nat.{ℕ, zero, suc, _+_, _-_, _*_, _≤_, _<_}
 use native.Mathlib.Omega.{arith}
 use native.Mathlib.Nat.{mul-le-mul-right}
 use lib.ListN.{length, getD, take, drop, replicate, length-append, length-replicate}
 use Rattle.theory.specs.Presentation.{Presentation, Word, Vector, spell, identity, Normal, Over, Valid}
-use Rattle.theory.specs.Placing.{Placed, collect, conjugates, total, raised, setDown, powerUses, place, placeHere, keeping}
+use Rattle.theory.specs.Placing.{Placed, collect, conjugates, total, raised, setDown, powerUses, place, keeping}
 use Rattle.theory.proofs.Words.{over-weaken, place-here, place-above}
 use Rattle.theory.proofs.Collecting.{collect-above}
 

@@ -8,17 +8,17 @@
 --   `collects`         collecting always ends, at `collect` with `count`
 --   `unique`           and at one vector and count only
 use mathlib.Core.Path.{_≡_, refl, sym, ap, ap₂, _∙_, subst, subst₂}
-use mathlib.Core.List.{List, [], _∷_, _++_, append-assoc, append-nil}
+use mathlib.Core.List.{[], _∷_, _++_, append-assoc, append-nil}
 use mathlib.Core.Bool.{Bool, true, false}
 use mathlib.Core.Logic.{_⊎_, inl, inr}
-use Prim.Native.Nat.{ℕ, zero, suc, _+_, _-_, _≤_, _<_}
+use Prim.Native.Nat.{ℕ, zero, suc, _+_, _≤_, _<_}
 use native.Mathlib.Omega.{arith}
 use lib.ListN.{length, replicate}
 use lib.Dec.{eqb}
 use borrow.Author.Tests.{eqb-true, eqb-false, ne-eqb}
 use Rattle.theory.specs.Presentation.{Presentation, Word, Vector, spell, identity, Normal, Over, Valid}
-use Rattle.theory.specs.Placing.{Placed, cost, conjugates, total, reached, raised, setDown, powerUses, place, placeHere, keeping, folded, summed, put, putCount, collect, count, Collects, done, next}
-use Rattle.theory.proofs.Words.{over-append, over-weaken, spell-over, normal-length, spell-identity, conjugates-append, conjugates-over, place-here, place-above, put-here, put-above, putCount-here, putCount-above}
+use Rattle.theory.specs.Placing.{Placed, cost, conjugates, reached, raised, setDown, place, placeHere, keeping, folded, summed, put, putCount, collect, count, Collects, done, next}
+use Rattle.theory.proofs.Words.{over-append, over-weaken, spell-over, normal-length, spell-identity, conjugates-over, place-here, place-above, put-here, put-above, putCount-here, putCount-above}
 
 -- The k entries of a vector that starts at the generator m reach to the last generator.
 pub record Level (P : Presentation) (k m : ℕ) : Type 0 where

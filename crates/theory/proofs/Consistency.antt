@@ -13,20 +13,19 @@
 --   `slide`         w_m Φ^e(w) is joined to w w_m for every word w above m: overlap 3
 --   `power-settles` so x_m^e and w_m agree on every vector: with overlap 4, Φ(w_m) is joined to w_m
 use mathlib.Core.Path.{_≡_, refl, sym, ap, ap₂, _∙_, subst, subst₂}
-use mathlib.Core.List.{List, [], _∷_, _++_, append-assoc, append-nil, tail}
-use mathlib.Core.Bool.{Bool, true, false}
+use mathlib.Core.List.{[], _∷_, _++_, append-assoc, append-nil}
+use mathlib.Core.Bool.{true}
 use mathlib.Core.Logic.{_⊎_, inl, inr}
 use Prim.Native.Nat.{ℕ, zero, suc, _+_, _-_, _≤_, _<_}
 use native.Mathlib.Omega.{arith}
-use lib.ListN.{length, replicate, replicate-append-replicate}
-use lib.Dec.{eqb}
+use lib.ListN.{replicate, replicate-append-replicate}
 use borrow.Author.Tests.{eq-eqb}
 use Rattle.theory.specs.Presentation.{Presentation, Word, Vector, spell, identity, Normal, NormalWord, Over, Valid, powerWord}
-use Rattle.theory.specs.Joined.{Relation, power, exchange, Link, forth, back, Joined, same, link}
+use Rattle.theory.specs.Joined.{Relation, power, exchange, forth, back, Joined, same, link}
 use Rattle.theory.specs.Placing.{conjugates, raised, reached, setDown, put, collect}
 use Rattle.theory.specs.Overlaps.{Overlap, triple, upper, lower, single, Among, leftSide, rightSide, Agrees, Consistent}
-use Rattle.theory.proofs.Words.{block-add, over-append, over-weaken, over-block, spell-over, spell-identity, conjugates-append, conjugates-block, conjugate-over, conjugates-over, power-over, put-here, put-above}
-use Rattle.theory.proofs.Collecting.{Level, above, whole, first-or-above, raised-low, setDown-low, setDown-normal, identity-normal, put-normal, collect-normal, collect-append, collect-above, fill, collect-from}
+use Rattle.theory.proofs.Words.{over-append, spell-over, spell-identity, conjugates-append, conjugates-block, conjugate-over, conjugates-over, power-over, put-here, put-above}
+use Rattle.theory.proofs.Collecting.{Level, above, whole, first-or-above, raised-low, setDown-low, setDown-normal, identity-normal, collect-normal, collect-append, collect-above, fill, collect-from}
 use Rattle.theory.proofs.Joining.{joined-trans, joined-sym, joined-at, joined-append, joined-within, relation-joined, relation-over, collect-joined, sides-over, sides-joined}
 
 module _ (P : Presentation) (valid : Valid P) where

@@ -2,15 +2,15 @@
 -- replacements; and that no theorem is empty: Q is valid and consistent, Z valid and inconsistent.
 --
 -- Main results: `marked`, `Q-valid`, `Q-consistent`, `Z-valid`, `Z-differs`.
-use mathlib.Core.Path.{_≡_, refl, sym, ap, _∙_, subst}
+use mathlib.Core.Path.{_≡_, refl, sym, _∙_}
 use mathlib.Core.List.{List, [], _∷_, _++_}
-use mathlib.Core.Option.{Option, none, some}
-use Prim.Native.Nat.{ℕ, zero, suc, _+_}
+use mathlib.Core.Option.{none, some}
+use Prim.Native.Nat.{ℕ}
 use native.Mathlib.Omega.{arith}
 use Rattle.theory.specs.Presentation.{Presentation, Word, Vector, spell, identity, Valid}
 use Rattle.theory.specs.Replacement.{leftmost, steps}
 use Rattle.theory.specs.Placing.{collect, count, invert}
-use Rattle.theory.specs.Overlaps.{Overlap, single, leftSide, rightSide, Consistent}
+use Rattle.theory.specs.Overlaps.{single, leftSide, rightSide, Consistent}
 use Rattle.theory.specs.Examples.{D, Q, H, Z}
 use Rattle.theory.proofs.Deciding.{valid-by, consistent-by}
 

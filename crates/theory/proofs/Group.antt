@@ -2,15 +2,14 @@
 --
 -- Main results: `product-identity` and `identity-product` and `product-invert` on any valid presentation; `product-associative`
 -- and `invert-product` on a consistent one, where the normal vectors form a group.
-use mathlib.Core.Path.{_≡_, refl, sym, ap, _∙_, subst}
-use mathlib.Core.List.{List, [], _∷_, _++_}
-use Prim.Native.Nat.{ℕ, zero, suc, _≤_}
-use Rattle.theory.specs.Presentation.{Presentation, Word, Vector, spell, identity, Normal, Over, Valid}
+use mathlib.Core.Path.{_≡_, sym, ap, _∙_}
+use mathlib.Core.List.{_++_}
+use Rattle.theory.specs.Presentation.{Presentation, Word, Vector, spell, identity, Normal, Valid}
 use Rattle.theory.specs.Placing.{collect, product, invert}
 use Rattle.theory.specs.Overlaps.{Consistent}
 use Rattle.theory.proofs.Words.{spell-over, spell-identity}
-use Rattle.theory.proofs.Collecting.{Level, whole, collect-append, collect-normal, identity-normal, fill}
-use Rattle.theory.proofs.Joining.{joined-sym, collect-joined}
+use Rattle.theory.proofs.Collecting.{whole, collect-append, collect-normal, fill}
+use Rattle.theory.proofs.Joining.{collect-joined}
 use Rattle.theory.proofs.Consistency.{consistency}
 use Rattle.theory.proofs.Inverse.{invert-normal, invert-clears}
 

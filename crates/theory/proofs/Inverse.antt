@@ -4,16 +4,16 @@
 --   `invert-normal`, `invert-clears`   the vector that document 01's rule builds is normal, and collects to the identity after the
 --                                      given one
 --   `invert-only`                      no other normal vector does
-use mathlib.Core.Path.{_≡_, refl, sym, ap, ap₂, _∙_, subst}
-use mathlib.Core.List.{List, [], _∷_, _++_, append-nil, tail}
+use mathlib.Core.Path.{_≡_, refl, sym, ap, ap₂, _∙_}
+use mathlib.Core.List.{[], _∷_, tail}
 use mathlib.Core.Bool.{Bool, true, false}
 use Prim.Native.Nat.{ℕ, zero, suc, _+_, _-_, _≤_, _<_}
 use native.Mathlib.Omega.{arith}
-use lib.ListN.{length, replicate, getD}
+use lib.ListN.{replicate, getD}
 use lib.Dec.{ltb}
 use borrow.Author.Tests.{eq-eqb, ltb-true, ltb-false}
-use Rattle.theory.specs.Presentation.{Presentation, Word, Vector, spell, identity, Normal, Over, Valid}
-use Rattle.theory.specs.Placing.{conjugates, raised, setDown, put, collect, complement, invert}
+use Rattle.theory.specs.Presentation.{Presentation, Vector, spell, identity, Normal, Valid}
+use Rattle.theory.specs.Placing.{conjugates, raised, setDown, collect, complement, invert}
 use Rattle.theory.proofs.Words.{spell-over, put-here}
 use Rattle.theory.proofs.Collecting.{Level, above, raised-low, collect-append, collect-above, collect-normal}
 

@@ -6,15 +6,15 @@
 --   `collect-joined`    so a word is joined to the word of the vector that it collects to
 --   `sides-joined`      the two sides of every overlap are joined, on any presentation
 use mathlib.Core.Path.{_≡_, refl, sym, ap, ap₂, _∙_, subst, subst₂}
-use mathlib.Core.List.{List, [], _∷_, _++_, append-assoc, append-nil}
+use mathlib.Core.List.{[], _∷_, _++_, append-assoc, append-nil}
 use mathlib.Core.Option.{Option, none, some}
 use mathlib.Core.Bool.{Bool, true, false}
-use Prim.Native.Nat.{ℕ, zero, suc, _+_, _-_, _≤_, _<_}
+use Prim.Native.Nat.{ℕ, zero, suc, _-_, _≤_}
 use native.Mathlib.Omega.{arith}
-use lib.ListN.{length, replicate}
+use lib.ListN.{replicate}
 use lib.Dec.{eqb, ltb}
 use borrow.Author.Tests.{eqb-true, ltb-true}
-use Rattle.theory.specs.Presentation.{Presentation, Word, Vector, spell, identity, Normal, Over, Valid, powerWord}
+use Rattle.theory.specs.Presentation.{Presentation, Word, Vector, spell, Normal, Over, Valid, powerWord}
 use Rattle.theory.specs.Replacement.{strip, replacePower, replaceFirst, behind, leftmost, steps}
 use Rattle.theory.specs.Joined.{Relation, power, exchange, Link, forth, back, Joined, same, link}
 use Rattle.theory.specs.Placing.{collect, count}

@@ -5,19 +5,18 @@
 --   `collected-steps`   so collecting ends where leftmost replacement leads after exactly the counted number of replacements
 --   `normal-ends`       and no replacement is possible there
 use mathlib.Core.Path.{_≡_, refl, sym, ap, ap₂, _∙_, subst}
-use mathlib.Core.List.{List, [], _∷_, _++_, append-assoc, append-nil}
+use mathlib.Core.List.{[], _∷_, _++_, append-assoc, append-nil}
 use mathlib.Core.Option.{Option, none, some}
 use mathlib.Core.Bool.{Bool, true, false}
 use mathlib.Core.Logic.{_⊎_, inl, inr}
-use Prim.Native.Nat.{ℕ, zero, suc, _+_, _-_, _≤_, _<_}
+use Prim.Native.Nat.{ℕ, zero, suc, _+_, _≤_, _<_}
 use native.Mathlib.Omega.{arith}
 use lib.ListN.{length, replicate}
-use lib.Dec.{eqb, ltb}
-use borrow.Author.Tests.{eqb-true, eqb-false, ne-eqb, lt-ltb, le-ltb}
+use borrow.Author.Tests.{eqb-true, ne-eqb, lt-ltb, le-ltb}
 use Rattle.theory.specs.Presentation.{Presentation, Word, Vector, spell, identity, Normal, Over, Valid, powerWord}
 use Rattle.theory.specs.Replacement.{strip, replacePower, replaceFirst, behind, leftmost, steps}
-use Rattle.theory.specs.Placing.{Placed, cost, conjugates, total, reached, raised, setDown, powerUses, place, placeHere, keeping, Collects, done, next}
-use Rattle.theory.proofs.Words.{eqb-same, block-snoc, over-append, over-weaken, spell-over, normal-length, spell-identity, conjugates-append, conjugates-block, place-here, place-above}
+use Rattle.theory.specs.Placing.{Placed, cost, conjugates, total, reached, raised, setDown, powerUses, place, placeHere, Collects, done, next}
+use Rattle.theory.proofs.Words.{eqb-same, block-snoc, over-append, over-weaken, spell-over, spell-identity, conjugates-append, conjugates-block, place-here, place-above}
 use Rattle.theory.proofs.Collecting.{Level, above, first-or-above, place-normal, place-over}
 
 -- The word does not begin below m; it may be empty.

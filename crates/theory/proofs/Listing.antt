@@ -1,8 +1,8 @@
 -- The list of overlaps is all of them: an overlap is among the presentation's if and only if it is listed.
 --
 -- Main results: `listed`, `among`.
-use mathlib.Core.Path.{_≡_, refl, sym, ap, _∙_, subst}
-use mathlib.Core.List.{List, [], _∷_, _++_, List·Memᴰ, List·Memᴰ·head, List·Memᴰ·tail, Memᴰ·append-left, Memᴰ·append-right, List·Memᴰ·append-cases, List·Memᴰ·cases-cons, List·Memᴰ·eq-of-singleton, List·Memᴰ·not-nil, Memᴰ·cast}
+use mathlib.Core.Path.{_≡_, refl, sym, subst}
+use mathlib.Core.List.{List, [], _∷_, _++_, List·Memᴰ, List·Memᴰ·head, List·Memᴰ·tail, Memᴰ·append-left, Memᴰ·append-right, List·Memᴰ·append-cases, List·Memᴰ·cases-cons, List·Memᴰ·eq-of-singleton, List·Memᴰ·not-nil}
 use mathlib.Core.Logic.{_⊎_, inl, inr}
 use Prim.Native.Nat.{ℕ, zero, suc, _+_, _-_, _≤_, _<_}
 use native.Mathlib.Omega.{arith}

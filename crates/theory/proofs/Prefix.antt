@@ -2,13 +2,12 @@
 --
 -- Main results: `put-below` and `put-at` for x_i with all that it puts, `place-below` and `place-at` for the one placing,
 -- `collect-below` for a word. The entry of the generator d + m stands at d in a vector that starts at m.
-use mathlib.Core.Path.{_≡_, refl, sym, ap, _∙_, subst}
-use mathlib.Core.List.{List, [], _∷_, _++_}
-use mathlib.Core.Logic.{_⊎_, inl, inr}
-use Prim.Native.Nat.{ℕ, zero, suc, _+_, _-_, _≤_, _<_}
+use mathlib.Core.Path.{_≡_, refl, ap, _∙_, subst}
+use mathlib.Core.List.{[], _∷_}
+use Prim.Native.Nat.{ℕ, zero, suc, _+_, _<_}
 use native.Mathlib.Omega.{arith}
 use lib.ListN.{length, getD}
-use Rattle.theory.specs.Presentation.{Presentation, Word, Vector, Normal, Over}
+use Rattle.theory.specs.Presentation.{Presentation, Word, Vector, Over}
 use Rattle.theory.specs.Placing.{Placed, raised, place, put, collect}
 use Rattle.theory.proofs.Words.{place-here, place-above, put-here, put-above}
 

@@ -3,15 +3,15 @@
 -- Main results: `over-append`, `spell-identity`, `spell-over`, `conjugates-append`, `conjugates-over`, and the two faces of every
 -- definition that walks down a vector: `place-here` and `place-above`, `put-here` and `put-above`.
 use mathlib.Core.Path.{_≡_, refl, sym, ap, _∙_}
-use mathlib.Core.List.{List, [], _∷_, _++_, append-assoc, append-nil}
-use mathlib.Core.Bool.{Bool, true, false}
+use mathlib.Core.List.{[], _∷_, _++_, append-assoc, append-nil}
+use mathlib.Core.Bool.{true, false}
 use Prim.Native.Nat.{ℕ, zero, suc, _+_, _-_, _≤_, _<_}
 use native.Mathlib.Omega.{arith}
-use lib.ListN.{length, replicate, length-replicate}
+use lib.ListN.{length, replicate}
 use lib.Dec.{eqb}
 use borrow.Author.Tests.{eq-eqb, ne-eqb}
 use Rattle.theory.specs.Presentation.{Presentation, Word, Vector, spell, identity, Normal, Over, NormalWord, Valid, powerWord}
-use Rattle.theory.specs.Placing.{Placed, conjugates, total, raised, setDown, place, placeHere, keeping, folded, summed, put, putCount, collect, powerUses}
+use Rattle.theory.specs.Placing.{conjugates, total, raised, setDown, place, placeHere, keeping, summed, put, putCount, collect, powerUses}
 
 pub eqb-same : (i : ℕ) → eqb i i ≡ true
 eqb-same i = eq-eqb i i refl

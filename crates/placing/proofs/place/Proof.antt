@@ -1,13 +1,10 @@
+-- `place` meets its contract, `Steps`: what is counted, judged, exchanged and raised is the definition's step.
 use borrow.Author.Needs.{needs}
-use borrow.Author.Tests.{lt-ltb, le-ltb, le-leb, lt-leb, eq-eqb, ne-eqb}
 use native.Mathlib.Omega.{arith}
-use mathlib.Core.Path.{_≡_, refl, sym, ap, _∙_}
-use mathlib.Core.List.{List, [], _∷_, _++_}
-use mathlib.Core.Bool.{Bool, true, false, cond, not, _&&_}
-use mathlib.Core.Logic.{⊎-elim}
-use Prim.Native.Nat.{ℕ, zero, suc, _+_, _-_, _*_, _/_, _%_, _≤_, _<_}
-use native.Mathlib.Numerals.{add-one}
-use lib.ListN.{length, getD, set, take, drop, length-set}
+use mathlib.Core.Path.{_≡_, sym, ap, _∙_}
+use mathlib.Core.List.{List}
+use Prim.Native.Nat.{ℕ, _+_, _-_, _/_, _≤_}
+use lib.ListN.{length, getD}
 use denote.Ref.{now}
 use Rattle.theory.specs.Placing.{powerUses, place}
 use Rattle.theory.proofs.Arrays.{normal-at}
@@ -61,11 +58,9 @@ cleared-is c =
     c .before .before .before .before .before .before .before .before .slots-after .ensures .vector
     (due-fits (start .args .left) (c .before .before .before .before .before .before .before .before .before .before .before .before .before .tail-sum .result + c .before .before .before .before .before .before .before .before .before .before .before .power-uses .result) (length (now (start .args .work)) / 3) (c .before .before .before .before .before .before .before .before .slots-after .result) (sym (number-is (c .before)) ∙ c .if1 .left))
 
--- src/lib.rt:110:9
 peek-requires : tie.Need-peek-requires
 peek-requires c κs = let r = c .before .before .before .before .before .before .pre .1 in (r .some, stacked-widen (r .stacked))
 
--- src/lib.rt:111:9
 tail-sum-requires : tie.Need-tail-sum-requires
 tail-sum-requires c κs =
     let start = c .before .before .before .before .before .before .before .before in
@@ -73,7 +68,6 @@ tail-sum-requires c κs =
     let l = long (start .pre .1) in
     (omega (arith, r, l), omega (arith, l, start .pre .0 .sources .rank))
 
--- src/lib.rt:112:9
 power-uses-requires : tie.Need-power-uses-requires
 power-uses-requires c κs =
     let start = c .before .before .before .before .before .before .before .before .before .before in
@@ -81,40 +75,31 @@ power-uses-requires c κs =
     let l = long (start .pre .1) in
     (r .0, omega (arith, r, l))
 
--- src/lib.rt:113:9
 slots-after-requires : tie.Need-slots-after-requires
 slots-after-requires c κs =
     let start = c .before .before .before .before .before .before .before .before .before .before .before .before .before in (start .pre .0, (start .pre .1, (c .before .before .before .before .before .before .peek .ensures, c .before .before .before .before .tail-sum .ensures .0)))
 
--- src/lib.rt:114:34
 add-number-of : tie.Need-add-number-of
 add-number-of c = omega (arith, c .before .before .before .before .before .before .before .power-uses .ensures .1, c .before .before .before .before .before .before .before .before .before .tail-sum .ensures .1)
 
--- src/lib.rt:114:54
 room-requires : tie.Need-room-requires
 room-requires c κs = search needs
 
--- src/lib.rt:114:9
 number-of-requires : tie.Need-number-of-requires
 number-of-requires c κs = search needs
 
--- src/lib.rt:116:9
 refusal-requires : tie.Need-refusal-requires
 refusal-requires c κs = search needs
 
--- src/lib.rt:116:9
 same-length : tie.Need-same-length
 same-length c = search needs
 
--- src/lib.rt:116:9
 same-length-2 : tie.Need-same-length-2
 same-length-2 c = search needs
 
--- src/lib.rt:116:9
 returns : tie.Need-returns
 returns c = let start = c .before .before .before .before .before .before .before .before .before .before .before .before .before .before .before .before .before .before .before .before .before .before .before in refused (start .pre .1) (counted (c .before .before .before .before .before .before .before .before .before .before .before .before)) (c .before .before .before .before .before .before .before .before .before .slots-after .ensures) (number-is (c .before .before)) (c .before .if1 .taken) (c .refusal .ensures)
 
--- src/lib.rt:118:5
 raise-requires : tie.Need-raise-requires
 raise-requires c κs =
     let start = c .before .before .before .before .before .before .before .before .before .before .before .before .before .before .before .before .before .before .before .before .before .before .before in
@@ -131,15 +116,12 @@ raise-requires c κs =
     let small = normal-at (presentation nums) (rankOf nums) 1 (i - 1) v (start .pre .1 .normal) (omega (arith, r)) in
     (start .pre .0 .accepts, (start .pre .0 .seen, ((r .0, r .1, n), (omega (arith, entry, small), e ∙ cleared-twice v i high ∙ ap (cleared i) (sym e)))))
 
--- src/lib.rt:94:1
 same-length-3 : tie.Need-same-length-3
 same-length-3 c = search needs
 
--- src/lib.rt:94:1
 same-length-4 : tie.Need-same-length-4
 same-length-4 c = search needs
 
--- src/lib.rt:94:1
 returns-2 : tie.Need-returns-2
 returns-2 c =
     let start = c .before .before .before .before .before .before .before .before .before .before .before .before .before .before .before .before .before .before .before .before .before .before .before .before .before .before in

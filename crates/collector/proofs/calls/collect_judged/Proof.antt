@@ -1,14 +1,10 @@
+-- `collect_judged` meets its contract: n of the forty bytes are lent to `collect_on`, whose contract is its own.
 use borrow.Author.Needs.{needs}
-use borrow.Author.Tests.{lt-ltb, le-ltb, le-leb, lt-leb, eq-eqb, ne-eqb}
 use native.Mathlib.Omega.{arith}
-use mathlib.Core.Path.{_≡_, refl, sym, ap, _∙_}
-use mathlib.Core.List.{List, [], _∷_, _++_}
-use mathlib.Core.Bool.{Bool, true, false, cond, not, _&&_}
-use mathlib.Core.Logic.{⊎-elim}
-use Prim.Native.Nat.{ℕ, zero, suc, _+_, _-_, _*_, _/_, _%_, _≤_, _<_}
-use native.Mathlib.Numerals.{add-one}
+use mathlib.Core.Path.{sym}
+use Prim.Native.Nat.{_≤_}
 use lib.Seq.{length-take-le}
-use lib.ListN.{length, getD, set, take, drop, length-set}
+use lib.ListN.{length}
 use denote.Ref.{now}
 use Rattle.theory.proofs.Words.{normal-length}
 use Rattle.layout.specs.Header.{rankOf}
@@ -29,33 +25,26 @@ few c =
     let n = normal-length (presentation nums) (rankOf nums) 1 (now (c .args .vector)) (vector-normal nums (now (c .args .vector)) (c .pre .1 .0)) in
     omega (arith, n, accepted nums (c .pre .0) .measured .most)
 
--- src/calls.rt:86:25
 view-of-requires : tie.Need-view-of-requires
 view-of-requires c κs = accepted (now (c .before .before .before .before .args .numbers)) (c .before .before .before .before .pre .0) .long
 
--- src/calls.rt:86:51
 array-borrow-prefix-own : tie.Need-array-borrow-prefix-own
 array-borrow-prefix-own c = few (c .before .before .before .before .before .before)
 
--- src/calls.rt:86:51
 slice-aggregate-collect-on : tie.Need-slice-aggregate-collect-on
 slice-aggregate-collect-on c = sym (length-take-le _ _ (few (c .before .before .before .before .before .before .before)))
 
--- src/calls.rt:86:5
 collect-on-requires : tie.Need-collect-on-requires
 collect-on-requires c κs =
     let start = c .before .before .before .before .before .before .before .before in
     ((start .pre .0, c .before .before .before .view-of .ensures), (start .pre .1, length-take-le _ _ (few start)))
 
--- src/calls.rt:77:1
 same-length : tie.Need-same-length
 same-length c = search needs
 
--- src/calls.rt:77:1
 same-length-2 : tie.Need-same-length-2
 same-length-2 c = search needs
 
--- src/calls.rt:77:1
 returns : tie.Need-returns
 returns c = search needs
 

@@ -1,13 +1,11 @@
+-- `collect_on` meets its contract: the word stands as one starting slot, the run from there is that of the definition, and closing hands its outcome out
+-- (proofs/Starts, Holding, Calling).
 use borrow.Author.Needs.{needs}
-use borrow.Author.Tests.{lt-ltb, le-ltb, le-leb, lt-leb, eq-eqb, ne-eqb}
 use native.Mathlib.Omega.{arith}
-use mathlib.Core.Path.{_≡_, refl, sym, ap, _∙_, subst}
-use mathlib.Core.List.{List, [], _∷_, _++_}
-use mathlib.Core.Bool.{Bool, true, false, cond, not, _&&_}
-use mathlib.Core.Logic.{⊎-elim}
-use Prim.Native.Nat.{ℕ, zero, suc, _+_, _-_, _*_, _/_, _%_, _≤_, _<_}
-use native.Mathlib.Numerals.{add-one}
-use lib.ListN.{length, getD, set, take, drop, length-set}
+use mathlib.Core.Path.{sym, subst}
+use mathlib.Core.List.{List}
+use Prim.Native.Nat.{ℕ, _≤_}
+use lib.ListN.{drop}
 use denote.Ref.{now}
 use Rattle.theory.specs.Presentation.{Normal}
 use Rattle.layout.specs.Header.{rankOf, bodiesAt}
@@ -43,19 +41,15 @@ normal c = vector-normal (nums c) (now (c .args .vector)) (c .pre .1 .0 .0)
 paired : (c : tie.Start) → Pairs (rankOf (nums c)) (now (c .args .word))
 paired c = word-pairs (nums c) (now (c .args .word)) (c .pre .1 .0 .1)
 
--- src/calls.rt:69:5
 copy-requires : tie.Need-copy-requires
 copy-requires c κs = search needs
 
--- src/calls.rt:70:9
 start-word-requires : tie.Need-start-word-requires
 start-word-requires c κs = word-short (now (c .before .before .before .before .before .before .before .before .before .before .before .args .numbers)) (now (c .before .before .before .before .before .before .before .before .before .before .before .args .word)) (c .before .before .before .before .before .before .before .before .before .before .before .pre .1 .0 .1)
 
--- src/calls.rt:71:9
 bodies-of-requires : tie.Need-bodies-of-requires
 bodies-of-requires c κs = search needs
 
--- src/calls.rt:72:9
 settle-requires : tie.Need-settle-requires
 settle-requires c κs =
     let start = c .before .before .before .before .before .before .before .before .before .before .before .before .before .before .before .before .before in
@@ -68,23 +62,18 @@ settle-requires c κs =
           (subst (Normal (presentation (nums start)) (rankOf (nums start)) 1) (sym (c .before .before .before .before .before .before .before .before .before .copy .ensures)) (normal start)) (omega arith) d,
     )
 
--- src/calls.rt:73:5
 close-requires : tie.Need-close-requires
 close-requires c κs = search needs
 
--- src/calls.rt:53:1
 same-length : tie.Need-same-length
 same-length c = search needs
 
--- src/calls.rt:53:1
 same-length-2 : tie.Need-same-length-2
 same-length-2 c = search needs
 
--- src/calls.rt:53:1
 same-length-3 : tie.Need-same-length-3
 same-length-3 c = search needs
 
--- src/calls.rt:53:1
 returns : tie.Need-returns
 returns c =
     let start = c .before .before .before .before .before .before .before .before .before .before .before .before .before .before .before .before .before .before .before .before .before .before .before .before .before .before .before .before .before .before in

@@ -1,13 +1,8 @@
+-- `depth` meets its contract: a refusal has depth 0, and an accepted vector that of its first entry (proofs/Calling).
 use borrow.Author.Needs.{needs}
-use borrow.Author.Tests.{lt-ltb, le-ltb, le-leb, lt-leb, eq-eqb, ne-eqb}
 use native.Mathlib.Omega.{arith}
-use mathlib.Core.Path.{_≡_, refl, sym, ap, _∙_}
-use mathlib.Core.List.{List, [], _∷_, _++_}
-use mathlib.Core.Bool.{Bool, true, false, cond, not, _&&_}
-use mathlib.Core.Logic.{⊎-elim}
-use Prim.Native.Nat.{ℕ, zero, suc, _+_, _-_, _*_, _/_, _%_, _≤_, _<_}
-use native.Mathlib.Numerals.{add-one}
-use lib.ListN.{length, getD, set, take, drop, length-set}
+use mathlib.Core.Path.{sym, ap, _∙_}
+use Prim.Native.Nat.{ℕ}
 use denote.Ref.{now}
 use Rattle.theory.proofs.Words.{normal-length}
 use Rattle.layout.specs.Header.{rankOf}
@@ -24,19 +19,15 @@ use Rattle.collector.proofs.calls.first_entry.Reads as first-entry-read
 use Rattle.collector.proofs.calls.judge_vector.Reads as judge-vector-reads
 use Rattle.layout.proofs.view_of.Reads as view-of-reads
 
--- src/calls.rt:227:9
 judge-vector-requires : tie.Need-judge-vector-requires
 judge-vector-requires c κs = search needs
 
--- src/calls.rt:229:9
 returns : tie.Need-returns
 returns c = depth-refused (now (c .before .before .before .before .args .numbers)) (now (c .before .before .before .before .args .vector)) (c .before .judge-vector .result) (c .before .judge-vector .ensures) (c .if1 .taken)
 
--- src/calls.rt:231:9
 view-of-requires : tie.Need-view-of-requires
 view-of-requires c κs = accepted (now (c .before .before .before .before .args .numbers)) (accepted-first (now (c .before .before .before .before .args .numbers)) (now (c .before .before .before .before .args .vector)) (sym (c .before .judge-vector .ensures) ∙ c .if1 .left) .accepts) .long
 
--- src/calls.rt:234:16
 first-entry-requires : tie.Need-first-entry-requires
 first-entry-requires c κs =
     let nums = (now (c .before .before .before .before .before .args .numbers)) in
@@ -45,7 +36,6 @@ first-entry-requires c κs =
     let n = normal-length (presentation nums) (rankOf nums) 1 v (vector-normal nums v (a .vector-right)) in
     omega (arith, n, accepted nums (a .accepts) .measured .most)
 
--- src/calls.rt:224:1
 returns-2 : tie.Need-returns-2
 returns-2 c =
     let nums = (now (c .before .before .before .before .before .before .args .numbers)) in

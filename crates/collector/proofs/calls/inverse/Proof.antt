@@ -1,13 +1,6 @@
+-- `inverse` meets its contract: each refusal leaves all as it was, and where nothing is refused `inverse_judged` says the rest (proofs/Calling).
 use borrow.Author.Needs.{needs}
-use borrow.Author.Tests.{lt-ltb, le-ltb, le-leb, lt-leb, eq-eqb, ne-eqb}
-use native.Mathlib.Omega.{arith}
-use mathlib.Core.Path.{_≡_, refl, sym, ap, _∙_}
-use mathlib.Core.List.{List, [], _∷_, _++_}
-use mathlib.Core.Bool.{Bool, true, false, cond, not, _&&_}
-use mathlib.Core.Logic.{⊎-elim}
-use Prim.Native.Nat.{ℕ, zero, suc, _+_, _-_, _*_, _/_, _%_, _≤_, _<_}
-use native.Mathlib.Numerals.{add-one}
-use lib.ListN.{length, getD, set, take, drop, length-set}
+use mathlib.Core.Path.{sym, _∙_}
 use denote.Ref.{now}
 use Rattle.collector.specs.Calls.{vectorNumber}
 use Rattle.collector.proofs.Calling.{refused-first, accepted-first, go-first, leaves-untouched, leaves-as}
@@ -19,39 +12,31 @@ use Rattle.collector.proofs.calls.inverse_judged.Reads as inverse-judge
 use Rattle.collector.proofs.calls.judge_vector.Reads as judge-vector-reads
 use Rattle.collector.proofs.calls.untouched.Reads as untouched-reads
 
--- src/calls.rt:201:9
 judge-vector-requires : tie.Need-judge-vector-requires
 judge-vector-requires c κs = search needs
 
--- src/calls.rt:203:9
 untouched-requires : tie.Need-untouched-requires
 untouched-requires c κs = search needs
 
--- src/calls.rt:203:9
 same-length : tie.Need-same-length
 same-length c = search needs
 
--- src/calls.rt:203:9
 returns : tie.Need-returns
 returns c =
     leaves-untouched (vectorNumber (now (c .before .before .before .before .before .before .before .args .numbers)) (now (c .before .before .before .before .before .before .before .args .vector))) (now (c .before .before .before .before .before .before .before .args .vector)) (now (c .before .before .before .before .before .before .before .args .work)) (refused-first (now (c .before .before .before .before .before .before .before .args .numbers)) (now (c .before .before .before .before .before .before .before .args .vector)) (now (c .before .before .before .before .before .before .before .args .work)) _ (λ z. c .before .if1 .taken (c .before .before .judge-vector .ensures ∙ z)))
     (c .untouched .ensures .0 ∙ c .before .before .judge-vector .ensures) (c .untouched .ensures .1)
 
--- src/calls.rt:205:5
 inverse-judged-requires : tie.Need-inverse-judged-requires
 inverse-judged-requires c κs =
     let a = accepted-first (now (c .before .before .before .before .before .before .before .before .args .numbers)) (now (c .before .before .before .before .before .before .before .before .args .vector)) (sym (c .before .before .before .judge-vector .ensures) ∙ c .before .before .if1 .left) in
     (a .accepts, a .vector-right)
 
--- src/calls.rt:196:1
 same-length-2 : tie.Need-same-length-2
 same-length-2 c = search needs
 
--- src/calls.rt:196:1
 same-length-3 : tie.Need-same-length-3
 same-length-3 c = search needs
 
--- src/calls.rt:196:1
 returns-2 : tie.Need-returns-2
 returns-2 c = leaves-as (go-first (now (c .before .before .before .before .before .before .before .before .before .before .before .before .before .args .numbers)) (now (c .before .before .before .before .before .before .before .before .before .before .before .before .before .args .vector)) (now (c .before .before .before .before .before .before .before .before .before .before .before .before .before .args .work)) _ (accepted-first (now (c .before .before .before .before .before .before .before .before .before .before .before .before .before .args .numbers)) (now (c .before .before .before .before .before .before .before .before .before .before .before .before .before .args .vector)) (sym (c .before .before .before .before .before .before .before .before .judge-vector .ensures) ∙ c .before .before .before .before .before .before .before .if1 .left))) (c .before .before .before .before .inverse-judged .ensures)
 

@@ -1,14 +1,10 @@
+-- `inverse_judged` meets its contract: n of the forty bytes of either vector are lent to `inverse_on`, whose contract is its own.
 use borrow.Author.Needs.{needs}
-use borrow.Author.Tests.{lt-ltb, le-ltb, le-leb, lt-leb, eq-eqb, ne-eqb}
 use native.Mathlib.Omega.{arith}
-use mathlib.Core.Path.{_≡_, refl, sym, ap, _∙_}
-use mathlib.Core.List.{List, [], _∷_, _++_}
-use mathlib.Core.Bool.{Bool, true, false, cond, not, _&&_}
-use mathlib.Core.Logic.{⊎-elim}
-use Prim.Native.Nat.{ℕ, zero, suc, _+_, _-_, _*_, _/_, _%_, _≤_, _<_}
-use native.Mathlib.Numerals.{add-one}
+use mathlib.Core.Path.{sym}
+use Prim.Native.Nat.{_≤_}
 use lib.Seq.{length-take-le}
-use lib.ListN.{length, getD, set, take, drop, length-set}
+use lib.ListN.{length}
 use denote.Ref.{now}
 use Rattle.theory.proofs.Words.{normal-length}
 use Rattle.layout.specs.Header.{rankOf}
@@ -29,41 +25,32 @@ few c =
     let n = normal-length (presentation nums) (rankOf nums) 1 (now (c .args .vector)) (vector-normal nums (now (c .args .vector)) (c .pre .1)) in
     omega (arith, n, accepted nums (c .pre .0) .measured .most)
 
--- src/calls.rt:192:25
 view-of-requires : tie.Need-view-of-requires
 view-of-requires c κs = accepted (now (c .before .before .before .args .numbers)) (c .before .before .before .pre .0) .long
 
--- src/calls.rt:192:51
 array-borrow-prefix-own : tie.Need-array-borrow-prefix-own
 array-borrow-prefix-own c = few (c .before .before .before .before .before)
 
--- src/calls.rt:192:51
 slice-aggregate-inverse-on : tie.Need-slice-aggregate-inverse-on
 slice-aggregate-inverse-on c = sym (length-take-le _ _ (few (c .before .before .before .before .before .before)))
 
--- src/calls.rt:192:66
 array-borrow-prefix-found : tie.Need-array-borrow-prefix-found
 array-borrow-prefix-found c = few (c .before .before .before .before .before .before)
 
--- src/calls.rt:192:66
 slice-aggregate-inverse-on-2 : tie.Need-slice-aggregate-inverse-on-2
 slice-aggregate-inverse-on-2 c = sym (length-take-le _ _ (few (c .before .before .before .before .before .before .before)))
 
--- src/calls.rt:192:5
 inverse-on-requires : tie.Need-inverse-on-requires
 inverse-on-requires c κs =
     let start = c .before .before .before .before .before .before .before .before in
     ((start .pre .0, c .before .before .before .before .view-of .ensures), (start .pre .1, (length-take-le _ _ (few start), length-take-le _ _ (few start))))
 
--- src/calls.rt:182:1
 same-length : tie.Need-same-length
 same-length c = search needs
 
--- src/calls.rt:182:1
 same-length-2 : tie.Need-same-length-2
 same-length-2 c = search needs
 
--- src/calls.rt:182:1
 returns : tie.Need-returns
 returns c = search needs
 

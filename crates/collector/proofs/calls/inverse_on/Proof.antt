@@ -1,13 +1,10 @@
+-- `inverse_on` meets its contract: what `invert` finds is the definition's, and closing hands it out (proofs/Finished).
 use borrow.Author.Needs.{needs}
-use borrow.Author.Tests.{lt-ltb, le-ltb, le-leb, lt-leb, eq-eqb, ne-eqb}
 use native.Mathlib.Omega.{arith}
-use mathlib.Core.Path.{_≡_, refl, sym, ap, _∙_, subst}
-use mathlib.Core.List.{List, [], _∷_, _++_}
-use mathlib.Core.Bool.{Bool, true, false, cond, not, _&&_}
-use mathlib.Core.Logic.{⊎-elim}
-use Prim.Native.Nat.{ℕ, zero, suc, _+_, _-_, _*_, _/_, _%_, _≤_, _<_}
-use native.Mathlib.Numerals.{add-one}
-use lib.ListN.{length, getD, set, take, drop, length-set}
+use mathlib.Core.Path.{sym, _∙_, subst}
+use mathlib.Core.List.{List, []}
+use Prim.Native.Nat.{ℕ, _/_}
+use lib.ListN.{length, drop}
 use denote.Ref.{now}
 use Rattle.theory.specs.Presentation.{Normal}
 use Rattle.theory.proofs.Words.{normal-length}
@@ -38,15 +35,12 @@ grounded c = ground-empty (nums c) (c .args .view) (c .pre .0 .0) (c .pre .0 .1)
 normal : (c : tie.Start) → Normal (presentation (nums c)) (rankOf (nums c)) 1 (now (c .args .vector))
 normal c = vector-normal (nums c) (now (c .args .vector)) (c .pre .1 .0)
 
--- src/calls.rt:176:5
 copy-requires : tie.Need-copy-requires
 copy-requires c κs = search needs
 
--- src/calls.rt:177:9
 bodies-of-requires : tie.Need-bodies-of-requires
 bodies-of-requires c κs = search needs
 
--- src/calls.rt:178:9
 invert-requires : tie.Need-invert-requires
 invert-requires c κs =
     let start = c .before .before .before .before .before .before .before .before .before .before .before .before .before .before in
@@ -58,27 +52,21 @@ invert-requires c κs =
       ),
     )
 
--- src/calls.rt:179:5
 close-requires : tie.Need-close-requires
 close-requires c κs = search needs
 
--- src/calls.rt:160:1
 same-length : tie.Need-same-length
 same-length c = search needs
 
--- src/calls.rt:160:1
 same-length-2 : tie.Need-same-length-2
 same-length-2 c = search needs
 
--- src/calls.rt:160:1
 same-length-3 : tie.Need-same-length-3
 same-length-3 c = search needs
 
--- src/calls.rt:160:1
 same-length-4 : tie.Need-same-length-4
 same-length-4 c = search needs
 
--- src/calls.rt:160:1
 returns : tie.Need-returns
 returns c =
     let start = c .before .before .before .before .before .before .before .before .before .before .before .before .before .before .before .before .before .before .before .before .before .before .before .before .before .before .before .before .before in

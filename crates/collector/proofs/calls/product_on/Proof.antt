@@ -1,13 +1,11 @@
+-- `product_on` meets its contract: the right vector's entries stand as starting slots, the run from there is that of the definition, and closing hands its
+-- outcome out (proofs/Starts, Holding, Calling).
 use borrow.Author.Needs.{needs}
-use borrow.Author.Tests.{lt-ltb, le-ltb, le-leb, lt-leb, eq-eqb, ne-eqb}
 use native.Mathlib.Omega.{arith}
-use mathlib.Core.Path.{_≡_, refl, sym, ap, _∙_, subst}
-use mathlib.Core.List.{List, [], _∷_, _++_}
-use mathlib.Core.Bool.{Bool, true, false, cond, not, _&&_}
-use mathlib.Core.Logic.{⊎-elim}
-use Prim.Native.Nat.{ℕ, zero, suc, _+_, _-_, _*_, _/_, _%_, _≤_, _<_}
-use native.Mathlib.Numerals.{add-one}
-use lib.ListN.{length, getD, set, take, drop, length-set}
+use mathlib.Core.Path.{_≡_, sym, _∙_, subst}
+use mathlib.Core.List.{List, []}
+use Prim.Native.Nat.{ℕ, _≤_}
+use lib.ListN.{length, drop}
 use denote.Ref.{now}
 use Rattle.theory.specs.Presentation.{Normal}
 use Rattle.theory.proofs.Words.{normal-length}
@@ -50,31 +48,24 @@ right-long c = normal-length (presentation (nums c)) (rankOf (nums c)) 1 (now (c
 few : (c : tie.Start) → length (now (c .args .right)) ≤ 40
 few c = omega (arith, right-long c, accepted (nums c) (c .pre .0 .0) .measured .most)
 
--- src/calls.rt:123:5
 copy-requires : tie.Need-copy-requires
 copy-requires c κs = search needs
 
--- src/calls.rt:124:9
 start-powers-requires : tie.Need-start-powers-requires
 start-powers-requires c κs = few (c .before .before .before .before .before .before .before .before .before .before .before)
 
--- src/calls.rt:125:9
 bodies-of-requires : tie.Need-bodies-of-requires
 bodies-of-requires c κs = search needs
 
--- src/calls.rt:126:53
 sub-settle : tie.Need-sub-settle
 sub-settle c = search needs
 
--- src/calls.rt:126:53
 part-settle-start : tie.Need-part-settle-start
 part-settle-start c = search needs
 
--- src/calls.rt:126:53
 part-settle-end : tie.Need-part-settle-end
 part-settle-end c = search needs
 
--- src/calls.rt:126:9
 settle-requires : tie.Need-settle-requires
 settle-requires c κs =
     let start = c .before .before .before .before .before .before .before .before .before .before .before .before .before .before .before .before .before .before in
@@ -87,23 +78,18 @@ settle-requires c κs =
           (subst (Normal (presentation (nums start)) (rankOf (nums start)) 1) (sym (c .before .before .before .before .before .before .before .before .before .before .copy .ensures)) (left-normal start)) (omega arith) d,
     )
 
--- src/calls.rt:127:5
 close-requires : tie.Need-close-requires
 close-requires c κs = sym (c .before .before .before .before .before .before .before .settle .kept .1 .1 .1 .0 ∙ c .before .before .before .before .before .before .before .before .before .before .before .before .before .before .before .before .before .before .copy .kept .0 ∙ c .before .before .before .before .before .before .before .before .before .before .before .before .before .before .before .before .before .before .before .before .before .before .before .before .before .before .pre .1 .1)
 
--- src/calls.rt:107:1
 same-length : tie.Need-same-length
 same-length c = search needs
 
--- src/calls.rt:107:1
 same-length-2 : tie.Need-same-length-2
 same-length-2 c = search needs
 
--- src/calls.rt:107:1
 same-length-3 : tie.Need-same-length-3
 same-length-3 c = search needs
 
--- src/calls.rt:107:1
 returns : tie.Need-returns
 returns c =
     let start = c .before .before .before .before .before .before .before .before .before .before .before .before .before .before .before .before .before .before .before .before .before .before .before .before .before .before .before .before .before .before .before in

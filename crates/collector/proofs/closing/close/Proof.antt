@@ -1,13 +1,8 @@
+-- `close` meets its contract: the workspace is cleared in any case, and the vector is copied over at DONE alone.
 use borrow.Author.Needs.{needs}
-use borrow.Author.Tests.{lt-ltb, le-ltb, le-leb, lt-leb, eq-eqb, ne-eqb}
-use native.Mathlib.Omega.{arith}
-use mathlib.Core.Path.{_≡_, refl, sym, ap, _∙_}
-use mathlib.Core.List.{List, [], _∷_, _++_}
-use mathlib.Core.Bool.{Bool, true, false, cond, not, _&&_}
-use mathlib.Core.Logic.{⊎-elim}
-use Prim.Native.Nat.{ℕ, zero, suc, _+_, _-_, _*_, _/_, _%_, _≤_, _<_}
-use native.Mathlib.Numerals.{add-one}
-use lib.ListN.{length, getD, set, take, drop, length-set}
+use borrow.Author.Tests.{eq-eqb, ne-eqb}
+use mathlib.Core.Path.{sym, ap, _∙_}
+use mathlib.Core.Bool.{Bool, cond}
 use denote.Ref.{now}
 use Rattle.collector.proofs.closing.close.Statement.{statement}
 use Rattle.collector.proofs.closing.close.Tie as tie
@@ -16,23 +11,18 @@ use Rattle.collector.proofs.closing.close.Lts as lts
 use Rattle.collector.proofs.closing.copy.Reads as copy-reads
 use Rattle.slots.proofs.clear.Reads as clear-reads
 
--- src/closing.rt:28:5
 clear-requires : tie.Need-clear-requires
 clear-requires c κs = search needs
 
--- src/closing.rt:30:9
 copy-requires : tie.Need-copy-requires
 copy-requires c κs = search needs
 
--- src/closing.rt:23:1
 same-length : tie.Need-same-length
 same-length c = search needs
 
--- src/closing.rt:23:1
 same-length-2 : tie.Need-same-length-2
 same-length-2 c = search needs
 
--- src/closing.rt:23:1
 returns : tie.Need-returns
 returns c =
     let a = c .before .before .before .before .before .before .before .before .before .before .before .before .before .args in (
@@ -40,11 +30,9 @@ returns c =
       c .before .before .copy .ensures ∙ sym (ap (λ (t : Bool). cond t (now (a .found)) (now (a .vector))) (eq-eqb (a .answer .number) 0 (c .before .before .before .before .if1 .taken))),
     )
 
--- src/closing.rt:23:1
 same-length-3 : tie.Need-same-length-3
 same-length-3 c = search needs
 
--- src/closing.rt:23:1
 returns-2 : tie.Need-returns-2
 returns-2 c =
     let a = c .before .before .before .before .before .before .before .before .before .args in (

@@ -1,13 +1,11 @@
+-- `copy` meets its contract. The invariant: the first at entries are those of the vector that is copied.
 use borrow.Author.Needs.{needs}
-use borrow.Author.Tests.{lt-ltb, le-ltb, le-leb, lt-leb, eq-eqb, ne-eqb}
 use native.Mathlib.Omega.{arith}
-use mathlib.Core.Path.{_≡_, refl, sym, ap, _∙_}
+use mathlib.Core.Path.{_≡_, sym, ap, _∙_}
 use mathlib.Core.List.{List, [], _∷_, _++_}
-use mathlib.Core.Bool.{Bool, true, false, cond, not, _&&_}
-use mathlib.Core.Logic.{⊎-elim}
-use Prim.Native.Nat.{ℕ, zero, suc, _+_, _-_, _*_, _/_, _%_, _≤_, _<_}
+use Prim.Native.Nat.{ℕ, _-_, _≤_, _<_}
 use native.Mathlib.Numerals.{add-one}
-use lib.ListN.{length, getD, set, take, drop, length-set}
+use lib.ListN.{length, getD, set, take, length-set}
 use denote.Ref.{now}
 use lib.Seq.{take-all, take-suc, take-suc-set}
 use Rattle.collector.proofs.closing.copy.Statement.{statement}
@@ -21,30 +19,24 @@ Inv-loop to₀ from at₀ to at = (at ≤ length to) × (length to ≡ length fr
 abbrev μ-loop : tie.MeasureT-loop
 μ-loop to₀ from at₀ to at = length to - at
 
--- src/closing.rt:16:5
 loop-holds : tie.Need-loop-holds Inv-loop μ-loop
 loop-holds c = search needs
 
--- src/closing.rt:17:18
 shared-slice-read-to : tie.Need-shared-slice-read-to Inv-loop μ-loop
 shared-slice-read-to c = search needs
 
--- src/closing.rt:17:9
 slice-write-to : tie.Need-slice-write-to Inv-loop μ-loop
 slice-write-to c = search needs
 
--- src/closing.rt:18:9
 add-at : tie.Need-add-at Inv-loop μ-loop
 add-at c = search needs
 
--- src/closing.rt:16:5
 loop-less : tie.Need-loop-less Inv-loop μ-loop
 loop-less c =
     let l = c .before .before .loop in
     let e = length-set (l .to) (l .at) (getD (now (c .before .before .before .args .from)) (l .at) 0) in
     omega (arith, e)
 
--- src/closing.rt:16:5
 loop-again : tie.Need-loop-again Inv-loop μ-loop
 loop-again c =
     let l = c .before .before .loop in
@@ -60,11 +52,9 @@ loop-again c =
           ∙ ap (λ (k : ℕ). take k s) (sym (add-one (l .at))),
     )
 
--- src/closing.rt:11:1
 same-length : tie.Need-same-length Inv-loop μ-loop
 same-length c = search needs
 
--- src/closing.rt:11:1
 returns : tie.Need-returns Inv-loop μ-loop
 returns c =
     let l = c .before .loop in

@@ -1,13 +1,9 @@
+-- `clear_entry` meets its contract: an entry 0 is left alone, any other is filled up by its power (proofs/Inverses `turned-zero`, `turned-some`).
 use borrow.Author.Needs.{needs}
-use borrow.Author.Tests.{lt-ltb, le-ltb, le-leb, lt-leb, eq-eqb, ne-eqb}
 use native.Mathlib.Omega.{arith}
-use mathlib.Core.Path.{_≡_, refl, sym, ap, _∙_, subst}
-use mathlib.Core.List.{List, [], _∷_, _++_}
-use mathlib.Core.Bool.{Bool, true, false, cond, not, _&&_}
-use mathlib.Core.Logic.{⊎-elim}
-use Prim.Native.Nat.{ℕ, zero, suc, _+_, _-_, _*_, _/_, _%_, _≤_, _<_}
-use native.Mathlib.Numerals.{add-one}
-use lib.ListN.{length, getD, set, take, drop, length-set}
+use mathlib.Core.Path.{_≡_, refl, sym, subst}
+use Prim.Native.Nat.{_/_, _<_}
+use lib.ListN.{length, getD}
 use denote.Ref.{now}
 use Rattle.theory.proofs.Words.{normal-length}
 use Rattle.theory.proofs.Arrays.{normal-at}
@@ -32,15 +28,12 @@ below c =
     let a = normal-at (presentation nums) (rankOf nums) 1 (c .args .at) (now (c .args .own)) (c .pre .1 .0) (c .pre .1 .1 .0) in
     omega (arith, a, c .pre .0 .seen .prime)
 
--- src/inverting.rt:64:13
 slice-read-a : tie.Need-slice-read-a
 slice-read-a c = let l = long (c .before .before .before .before .before) in omega (arith, l, c .before .before .before .before .before .pre .1 .1 .0)
 
--- src/inverting.rt:64:13
 cast-a : tie.Need-cast-a
 cast-a c = omega (arith, c .slice-known3 .given (c .before .before .before .before .before .args .at))
 
--- src/inverting.rt:66:9
 returns : tie.Need-returns
 returns c =
     let a = c .before .before .before .before .before .before .args in
@@ -51,33 +44,26 @@ returns c =
           (sym (turned-zero (now (a .numbers)) (a .budget) (length (now (a .work)) / 3) (now (a .own)) (a .at) (a .count) (c .if1 .taken))) (refl, refl, refl);
     }
 
--- src/inverting.rt:68:24
 add-t15 : tie.Need-add-t15
 add-t15 c = search needs
 
--- src/inverting.rt:68:23
 cast-t16 : tie.Need-cast-t16
 cast-t16 c = search needs
 
--- src/inverting.rt:69:22
 sub-t16 : tie.Need-sub-t16
 sub-t16 c = omega (arith, below (c .before .before .before .before .before .before .before))
 
--- src/inverting.rt:70:5
 place-power-requires : tie.Need-place-power-requires
 place-power-requires c κs =
     let start = c .before .before .before .before .before .before .before .before .before in
     (start .pre .0, (start .pre .1 .0, (omega arith, omega (arith, start .pre .1 .1 .0), omega (arith, below start), start .pre .1 .1 .1)))
 
--- src/inverting.rt:47:1
 same-length : tie.Need-same-length
 same-length c = search needs
 
--- src/inverting.rt:47:1
 same-length-2 : tie.Need-same-length-2
 same-length-2 c = search needs
 
--- src/inverting.rt:47:1
 returns-2 : tie.Need-returns-2
 returns-2 c =
     let a = c .before .before .before .before .before .before .before .before .before .before .before .before .before .before .args in

@@ -1,13 +1,10 @@
+-- `invert` meets its contract. The invariant (`Sofar`, proofs/Inverses): the entries before at are found, the vector that is worked off has 0 there, and what is
+-- left to do is the definition's from at on.
 use borrow.Author.Needs.{needs}
-use borrow.Author.Tests.{lt-ltb, le-ltb, le-leb, lt-leb, eq-eqb, ne-eqb}
 use native.Mathlib.Omega.{arith}
-use mathlib.Core.Path.{_≡_, refl, sym, ap, _∙_, subst}
-use mathlib.Core.List.{List, [], _∷_, _++_}
-use mathlib.Core.Bool.{Bool, true, false, cond, not, _&&_}
-use mathlib.Core.Logic.{⊎-elim}
-use Prim.Native.Nat.{ℕ, zero, suc, _+_, _-_, _*_, _/_, _%_, _≤_, _<_}
-use native.Mathlib.Numerals.{add-one}
-use lib.ListN.{length, getD, set, take, drop, length-set}
+use mathlib.Core.Path.{_≡_, sym, ap, _∙_, subst}
+use Prim.Native.Nat.{ℕ, _+_, _-_, _<_}
+use lib.ListN.{length, getD, set, length-set}
 use denote.Ref.{now}
 use Rattle.theory.specs.Placing.{complement}
 use Rattle.theory.proofs.Words.{normal-length}
@@ -44,21 +41,18 @@ below c h =
     let a = normal-at (presentation nums) (rankOf nums) 1 (c .loop .at) (c .loop .own) (c .loop .inv .normal) h in
     omega (arith, a, c .before .before .before .before .before .before .pre .0 .seen .prime)
 
--- src/inverting.rt:103:5
 loop-holds : tie.Need-loop-holds Inv-loop μ-loop
 loop-holds c =
     let start = c .before .before .before .before .before in
     let a = start .args in
     sofar-start (now (a .numbers)) (a .budget) (now (a .work)) (now (a .own)) (now (a .found)) (start .pre .1 .0) (start .pre .1 .1)
 
--- src/inverting.rt:104:44
 slice-read-entry-of-inverse : tie.Need-slice-read-entry-of-inverse Inv-loop μ-loop
 slice-read-entry-of-inverse c =
     let l = c .before .before .loop .inv in
     let n = normal-length (presentation (now (c .before .before .before .before .before .before .before .before .args .numbers))) (rankOf (now (c .before .before .before .before .before .before .before .before .args .numbers))) 1 (c .before .before .loop .own) (l .normal) in
     omega (arith, n, l .long)
 
--- src/inverting.rt:104:21
 entry-of-inverse-requires : tie.Need-entry-of-inverse-requires Inv-loop μ-loop
 entry-of-inverse-requires c κs =
     let start = c .before .before .before .before .before .before .before .before in
@@ -66,47 +60,38 @@ entry-of-inverse-requires c κs =
     let nums = now (start .args .numbers) in
     (below (c .before .before) (omega (arith, l .long)), omega (arith, accepted nums (start .pre .0 .accepts) .prime-most, start .pre .0 .seen .prime))
 
--- src/inverting.rt:104:9
 slice-write-found : tie.Need-slice-write-found Inv-loop μ-loop
 slice-write-found c = search needs
 
--- src/inverting.rt:105:13
 clear-entry-requires : tie.Need-clear-entry-requires Inv-loop μ-loop
 clear-entry-requires c κs =
     let start = c .before .before .before .before .before .before .before .before .before .before .before in
     let l = c .before .before .before .before .before .loop .inv in
     (start .pre .0, (l .normal, (omega (arith, l .long), l .paid)))
 
--- src/inverting.rt:107:13
 same-length : tie.Need-same-length Inv-loop μ-loop
 same-length c = c .before .before .before .before .before .before .clear-entry .kept .1 .1 .1 .0 ∙ own-long (c .before .before .before .before .before .before .before .before .before .before .before .before)
 
--- src/inverting.rt:107:13
 same-length-2 : tie.Need-same-length-2 Inv-loop μ-loop
 same-length-2 c = length-set (c .before .before .before .before .before .before .before .before .before .before .before .before .loop .found) (c .before .before .before .before .before .before .before .before .before .before .before .before .loop .at) (c .before .before .before .before .before .before .before .before .before .entry-of-inverse .result) ∙ c .before .before .before .before .before .before .before .before .before .before .before .before .loop .inv .long ∙ sym (c .before .before .before .before .before .before .before .before .before .before .before .before .before .before .before .before .before .before .pre .1 .1)
 
--- src/inverting.rt:107:13
 same-length-3 : tie.Need-same-length-3 Inv-loop μ-loop
 same-length-3 c = search needs
 
--- src/inverting.rt:107:13
 returns : tie.Need-returns Inv-loop μ-loop
 returns c =
     let l = c .before .before .before .before .before .before .before .before .before .before .before .before .loop .inv in
     sofar-refused (c .before .before .before .before .before .before .before .before .before .before .before .before .before .before .before .before .before .before .pre .0 .accepts) l (omega (arith, l .long)) (c .before .before .before .before .before .before .clear-entry .ensures) (c .if1 .taken)
 
--- src/inverting.rt:110:9
 add-at : tie.Need-add-at Inv-loop μ-loop
 add-at c = search needs
 
--- src/inverting.rt:103:5
 loop-less : tie.Need-loop-less Inv-loop μ-loop
 loop-less c =
     let l = c .before .before .before .before .before .before .before .before .before .before .before .before .loop in
     let e = length-set (l .found) (l .at) (c .before .before .before .before .before .before .before .before .before .entry-of-inverse .result) in
     omega (arith, e)
 
--- src/inverting.rt:103:5
 loop-again : tie.Need-loop-again Inv-loop μ-loop
 loop-again c =
     let start = c .before .before .before .before .before .before .before .before .before .before .before .before .before .before .before .before .before .before in
@@ -120,19 +105,15 @@ loop-again c =
     (sym entry)
     (sofar-next (start .pre .0 .accepts) (l .inv) (omega (arith, l .inv .long)) (c .before .before .before .before .before .before .clear-entry .ensures) (c .if1 .left))
 
--- src/inverting.rt:85:1
 same-length-4 : tie.Need-same-length-4 Inv-loop μ-loop
 same-length-4 c = own-long (c .before)
 
--- src/inverting.rt:85:1
 same-length-5 : tie.Need-same-length-5 Inv-loop μ-loop
 same-length-5 c = search needs
 
--- src/inverting.rt:85:1
 same-length-6 : tie.Need-same-length-6 Inv-loop μ-loop
 same-length-6 c = search needs
 
--- src/inverting.rt:85:1
 returns-2 : tie.Need-returns-2 Inv-loop μ-loop
 returns-2 c =
     let l = c .before .loop .inv in

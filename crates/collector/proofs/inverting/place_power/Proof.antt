@@ -1,13 +1,6 @@
+-- `place_power` meets its contract: the power is one starting slot on an empty stack, and the run from there is that of the definition (proofs/Holding).
 use borrow.Author.Needs.{needs}
-use borrow.Author.Tests.{lt-ltb, le-ltb, le-leb, lt-leb, eq-eqb, ne-eqb}
 use native.Mathlib.Omega.{arith}
-use mathlib.Core.Path.{_≡_, refl, sym, ap, _∙_}
-use mathlib.Core.List.{List, [], _∷_, _++_}
-use mathlib.Core.Bool.{Bool, true, false, cond, not, _&&_}
-use mathlib.Core.Logic.{⊎-elim}
-use Prim.Native.Nat.{ℕ, zero, suc, _+_, _-_, _*_, _/_, _%_, _≤_, _<_}
-use native.Mathlib.Numerals.{add-one}
-use lib.ListN.{length, getD, set, take, drop, length-set}
 use denote.Ref.{now}
 use Rattle.collector.proofs.Holding.{held-none, held-put, sets-held, told}
 use Rattle.collector.proofs.inverting.place_power.Statement.{statement}
@@ -17,23 +10,18 @@ use Rattle.collector.proofs.inverting.place_power.Lts as lts
 use Rattle.collector.proofs.running.settle.Reads as settle-reads
 use Rattle.collector.proofs.starting.put.Reads as put-reads
 
--- src/inverting.rt:42:5
 put-requires : tie.Need-put-requires
 put-requires c κs = search needs
 
--- src/inverting.rt:43:40
 sub-settle : tie.Need-sub-settle
 sub-settle c = search needs
 
--- src/inverting.rt:43:40
 part-settle-start : tie.Need-part-settle-start
 part-settle-start c = search needs
 
--- src/inverting.rt:43:40
 part-settle-end : tie.Need-part-settle-end
 part-settle-end c = search needs
 
--- src/inverting.rt:43:5
 settle-requires : tie.Need-settle-requires
 settle-requires c κs =
     let start = c .before .before .before .before .before .before .before .before .before .before .before in
@@ -43,15 +31,12 @@ settle-requires c κs =
           (record { low = p .0; high = p .1; some = p .2 }, tt) (start .pre .1 .0) (p .3) (omega arith),
     )
 
--- src/inverting.rt:24:1
 same-length : tie.Need-same-length
 same-length c = search needs
 
--- src/inverting.rt:24:1
 same-length-2 : tie.Need-same-length-2
 same-length-2 c = search needs
 
--- src/inverting.rt:24:1
 returns : tie.Need-returns
 returns c =
     let start = c .before .before .before .before .before .before .before .before .before .before .before .before .before .before .before .before in

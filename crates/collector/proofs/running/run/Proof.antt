@@ -1,17 +1,13 @@
+-- `run` meets its contract. The invariant (`Underway`, proofs/Turning): from where it stands the run has the same outcome as from where it began. What falls is
+-- the letters on the slots with what the budget can still pay.
 use borrow.Author.Needs.{needs}
-use borrow.Author.Tests.{lt-ltb, le-ltb, le-leb, lt-leb, eq-eqb, ne-eqb}
 use native.Mathlib.Omega.{arith}
-use mathlib.Core.Path.{_≡_, refl, sym, ap, _∙_}
-use mathlib.Core.List.{List, [], _∷_, _++_}
-use mathlib.Core.Bool.{Bool, true, false, cond, not, _&&_}
-use mathlib.Core.Logic.{⊎-elim}
-use Prim.Native.Nat.{ℕ, zero, suc, _+_, _-_, _*_, _/_, _%_, _≤_, _<_}
-use native.Mathlib.Numerals.{add-one}
-use lib.ListN.{length, getD, set, take, drop, length-set}
-use denote.Ref.{now}
+use mathlib.Core.Path.{_∙_}
+use Prim.Native.Nat.{_+_, _-_, _*_}
+use lib.ListN.{length}
 use Rattle.layout.specs.Header.{primeOf, rankOf}
 use Rattle.slots.specs.Pieces.{pieces, letters}
-use Rattle.collector.proofs.Turning.{Underway, underway, same-long, turn-end, turn-off, turn-on, turn-paid, turn-falls}
+use Rattle.collector.proofs.Turning.{Underway, same-long, turn-end, turn-off, turn-on, turn-paid, turn-falls}
 use Rattle.collector.proofs.running.run.Statement.{statement}
 use Rattle.collector.proofs.running.run.Tie as tie
 use Rattle.collector.proofs.running.run.Reads as reads
@@ -26,57 +22,44 @@ abbrev μ-loop : tie.MeasureT-loop
 μ-loop numbers view bodies vector₀ word budget count work₀ depth spent₀ slots₀ vector work spent slots =
     length (letters (pieces bodies word work slots)) + rankOf numbers * primeOf numbers * (budget - spent)
 
--- src/running.rt:32:5
 loop-holds : tie.Need-loop-holds Inv-loop μ-loop
 loop-holds c = search needs
 
--- src/running.rt:33:65
 sub-place : tie.Need-sub-place Inv-loop μ-loop
 sub-place c = search needs
 
--- src/running.rt:33:13
 place-requires : tie.Need-place-requires Inv-loop μ-loop
 place-requires c κs =
     let i = c .before .before .before .loop .inv in
     (c .before .before .before .before .before .before .before .before .before .pre .0, record { normal = i .normal; stacked = i .stacked; some = omega arith })
 
--- src/running.rt:35:13
 same-length : tie.Need-same-length Inv-loop μ-loop
 same-length c = c .before .before .before .before .before .before .place .kept .1 .1 .1 .0 ∙ same-long (c .before .before .before .before .before .before .before .before .before .before .before .before .before .before .before .before .pre .0) (c .before .before .before .before .before .before .before .before .before .before .before .before .before .before .before .before .pre .1) (c .before .before .before .before .before .before .before .before .before .before .loop .inv)
 
--- src/running.rt:35:13
 same-length-2 : tie.Need-same-length-2 Inv-loop μ-loop
 same-length-2 c = search needs
 
--- src/running.rt:35:13
 returns : tie.Need-returns Inv-loop μ-loop
 returns c = turn-off (c .before .before .before .before .before .before .before .before .before .before .before .before .before .before .before .before .pre .0) (c .before .before .before .before .before .before .before .before .before .before .before .before .before .before .before .before .pre .1) (c .before .before .before .before .before .before .before .before .before .before .loop .inv) (omega arith) (c .before .before .before .before .before .before .place .ensures) (c .if1 .taken)
 
--- src/running.rt:40:18
 add-spent : tie.Need-add-spent Inv-loop μ-loop
 add-spent c = let h = turn-paid (c .before .before .before .before .before .before .before .before .before .before .before .before .before .before .before .before .before .pre .0) (c .before .before .before .before .before .before .before .before .before .before .before .before .before .before .before .before .before .pre .1) (c .before .before .before .before .before .before .before .before .before .before .before .loop .inv) (omega arith) (c .before .before .before .before .before .before .before .place .ensures) (c .before .if1 .left) in omega (arith, h)
 
--- src/running.rt:40:9
 add-spent-2 : tie.Need-add-spent-2 Inv-loop μ-loop
 add-spent-2 c = let h = turn-paid (c .before .before .before .before .before .before .before .before .before .before .before .before .before .before .before .before .before .pre .0) (c .before .before .before .before .before .before .before .before .before .before .before .before .before .before .before .before .before .pre .1) (c .before .before .before .before .before .before .before .before .before .before .before .loop .inv) (omega arith) (c .before .before .before .before .before .before .before .place .ensures) (c .before .if1 .left) in omega (arith, h)
 
--- src/running.rt:32:5
 loop-less : tie.Need-loop-less Inv-loop μ-loop
 loop-less c = turn-falls (c .before .before .before .before .before .before .before .before .before .before .before .before .before .before .before .before .before .pre .0) (c .before .before .before .before .before .before .before .before .before .before .before .before .before .before .before .before .before .pre .1) (c .before .before .before .before .before .before .before .before .before .before .before .loop .inv) (omega arith) (c .before .before .before .before .before .before .before .place .ensures) (c .before .if1 .left)
 
--- src/running.rt:32:5
 loop-again : tie.Need-loop-again Inv-loop μ-loop
 loop-again c = turn-on (c .before .before .before .before .before .before .before .before .before .before .before .before .before .before .before .before .before .pre .0) (c .before .before .before .before .before .before .before .before .before .before .before .before .before .before .before .before .before .pre .1) (c .before .before .before .before .before .before .before .before .before .before .before .loop .inv) (omega arith) (c .before .before .before .before .before .before .before .place .ensures) (c .before .if1 .left)
 
--- src/running.rt:13:1
 same-length-3 : tie.Need-same-length-3 Inv-loop μ-loop
 same-length-3 c = same-long (c .before .before .before .before .before .before .before .pre .0) (c .before .before .before .before .before .before .before .pre .1) (c .before .loop .inv)
 
--- src/running.rt:13:1
 same-length-4 : tie.Need-same-length-4 Inv-loop μ-loop
 same-length-4 c = search needs
 
--- src/running.rt:13:1
 returns-2 : tie.Need-returns-2 Inv-loop μ-loop
 returns-2 c = turn-end (c .before .before .before .before .before .before .before .pre .0) (c .before .before .before .before .before .before .before .pre .1) (c .before .loop .inv) (omega arith)
 

@@ -1,13 +1,6 @@
+-- `settle` meets its contract: 10 at once if the starting slots exceed the room, else the run (proofs/Holding `full`, `fitting`).
 use borrow.Author.Needs.{needs}
-use borrow.Author.Tests.{lt-ltb, le-ltb, le-leb, lt-leb, eq-eqb, ne-eqb}
-use native.Mathlib.Omega.{arith}
-use mathlib.Core.Path.{_≡_, refl, sym, ap, _∙_, subst}
-use mathlib.Core.List.{List, [], _∷_, _++_}
-use mathlib.Core.Bool.{Bool, true, false, cond, not, _&&_}
-use mathlib.Core.Logic.{⊎-elim}
-use Prim.Native.Nat.{ℕ, zero, suc, _+_, _-_, _*_, _/_, _%_, _≤_, _<_}
-use native.Mathlib.Numerals.{add-one}
-use lib.ListN.{length, getD, set, take, drop, length-set}
+use mathlib.Core.Path.{refl, sym, subst}
 use denote.Ref.{now}
 use Rattle.collector.specs.Run.{Outcome}
 use Rattle.collector.specs.Running.{Tells}
@@ -18,11 +11,9 @@ use Rattle.collector.proofs.running.settle.Reads as reads
 use Rattle.collector.proofs.running.settle.Lts as lts
 use Rattle.collector.proofs.running.run.Reads as run-reads
 
--- src/running.rt:68:21
 mul-if1 : tie.Need-mul-if1
 mul-if1 c = search needs
 
--- src/running.rt:69:9
 returns : tie.Need-returns
 returns c =
     let a = c .before .before .before .before .before .before .args in
@@ -34,21 +25,17 @@ returns c =
           (sym (full (now (a .numbers)) (now (a .bodies)) (now (a .vector)) (now (a .word)) (a .budget) (a .count) ws (a .depth) (c .if1 .taken))) (refl, refl);
     }
 
--- src/running.rt:74:5
 run-requires : tie.Need-run-requires
 run-requires c κs =
     let s = c .before .before .before .before .before .before .before .before .pre .1 in
     (c .before .before .before .before .before .before .before .before .pre .0, record { normal = s .normal; stacked = s .stacked (c .before .before .if1 .left); paid = s .paid })
 
--- src/running.rt:51:1
 same-length : tie.Need-same-length
 same-length c = search needs
 
--- src/running.rt:51:1
 same-length-2 : tie.Need-same-length-2
 same-length-2 c = search needs
 
--- src/running.rt:51:1
 returns-2 : tie.Need-returns-2
 returns-2 c =
     let a = c .before .before .before .before .before .before .before .before .before .before .before .before .before .args in

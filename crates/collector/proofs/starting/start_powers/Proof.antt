@@ -1,13 +1,10 @@
+-- `start_powers` meets its contract. The invariant: the slots of the entries from at on are held (proofs/Holding), so the lowest generator ends on top.
 use borrow.Author.Needs.{needs}
-use borrow.Author.Tests.{lt-ltb, le-ltb, le-leb, lt-leb, eq-eqb, ne-eqb}
 use native.Mathlib.Omega.{arith}
-use mathlib.Core.Path.{_≡_, refl, sym, ap, _∙_, subst}
-use mathlib.Core.List.{List, [], _∷_, _++_}
-use mathlib.Core.Bool.{Bool, true, false, cond, not, _&&_}
-use mathlib.Core.Logic.{⊎-elim}
-use Prim.Native.Nat.{ℕ, zero, suc, _+_, _-_, _*_, _/_, _%_, _≤_, _<_}
-use native.Mathlib.Numerals.{add-one}
-use lib.ListN.{length, getD, set, take, drop, length-set}
+use mathlib.Core.Path.{_≡_, refl, sym, _∙_, subst}
+use mathlib.Core.List.{List}
+use Prim.Native.Nat.{ℕ, _+_, _-_, _≤_}
+use lib.ListN.{length, drop}
 use denote.Ref.{now}
 use Rattle.slots.specs.declared.Slot.{Slot}
 use Rattle.collector.specs.Starting.{powerStart, Held}
@@ -26,46 +23,36 @@ Inv-loop right work₀ depth₀ at₀ work depth at =
 abbrev μ-loop : tie.MeasureT-loop
 μ-loop right work₀ depth₀ at₀ work depth at = at
 
--- src/starting.rt:46:5
 loop-holds : tie.Need-loop-holds Inv-loop μ-loop
 loop-holds c =
     let a = c .before .before .args in
     let v = now (a .right) in
     (omega arith, omega arith, refl, subst (λ (l : List Slot). Held l (now (a .work)) 0) (sym (power-start-none (length v + 1) v (length v) (omega arith))) (held-none (now (a .work))))
 
--- src/starting.rt:47:9
 sub-at : tie.Need-sub-at Inv-loop μ-loop
 sub-at c = search needs
 
--- src/starting.rt:48:17
 shared-slice-read-e : tie.Need-shared-slice-read-e Inv-loop μ-loop
 shared-slice-read-e c = search needs
 
--- src/starting.rt:50:53
 add-t12 : tie.Need-add-t12 Inv-loop μ-loop
 add-t12 c = search needs
 
--- src/starting.rt:50:52
 cast-t13 : tie.Need-cast-t13 Inv-loop μ-loop
 cast-t13 c = search needs
 
--- src/starting.rt:50:79
 cast-t15 : tie.Need-cast-t15 Inv-loop μ-loop
 cast-t15 c = omega (arith, c .before .before .shared-slice-known2 .given (c .before .before .before .before .loop .at - 1))
 
--- src/starting.rt:50:13
 put-requires : tie.Need-put-requires Inv-loop μ-loop
 put-requires c κs = search needs
 
--- src/starting.rt:51:13
 add-depth : tie.Need-add-depth Inv-loop μ-loop
 add-depth c = search needs
 
--- src/starting.rt:46:5
 loop-less : tie.Need-loop-less Inv-loop μ-loop
 loop-less c = search needs
 
--- src/starting.rt:46:5
 loop-again : tie.Need-loop-again Inv-loop μ-loop
 loop-again c =
     let a = c .before .before .before .before .before .before .before .before .before .before .args in
@@ -78,11 +65,9 @@ loop-again c =
       subst (λ (x : List Slot). Held x (c .before .before .put .last .0) (l .depth + 1)) (sym e) (held-put (l .inv .3) p),
     )
 
--- src/starting.rt:46:5
 loop-less-2 : tie.Need-loop-less-2 Inv-loop μ-loop
 loop-less-2 c = search needs
 
--- src/starting.rt:46:5
 loop-again-2 : tie.Need-loop-again-2 Inv-loop μ-loop
 loop-again-2 c =
     let a = c .before .before .before .before .before .before .args in
@@ -90,11 +75,9 @@ loop-again-2 c =
     let e = power-start-zero (now (a .right)) (l .at) (omega arith) (l .inv .0) (c .if1 .left) in
     (omega (arith, l .inv .0), omega (arith, l .inv .1), l .inv .2, subst (λ (x : List Slot). Held x (l .work) (l .depth)) (sym e) (l .inv .3))
 
--- src/starting.rt:39:1
 same-length : tie.Need-same-length Inv-loop μ-loop
 same-length c = search needs
 
--- src/starting.rt:39:1
 returns : tie.Need-returns Inv-loop μ-loop
 returns c =
     let v = now (c .before .before .before .before .args .right) in

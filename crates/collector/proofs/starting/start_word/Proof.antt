@@ -1,13 +1,7 @@
+-- `start_word` meets its contract: no slot for the empty word, else one string of all its pairs (proofs/Holding).
 use borrow.Author.Needs.{needs}
-use borrow.Author.Tests.{lt-ltb, le-ltb, le-leb, lt-leb, eq-eqb, ne-eqb}
-use native.Mathlib.Omega.{arith}
-use mathlib.Core.Path.{_≡_, refl, sym, ap, _∙_, subst}
-use mathlib.Core.List.{List, [], _∷_, _++_}
-use mathlib.Core.Bool.{Bool, true, false, cond, not, _&&_}
-use mathlib.Core.Logic.{⊎-elim}
-use Prim.Native.Nat.{ℕ, zero, suc, _+_, _-_, _*_, _/_, _%_, _≤_, _<_}
-use native.Mathlib.Numerals.{add-one}
-use lib.ListN.{length, getD, set, take, drop, length-set}
+use mathlib.Core.Path.{refl, sym, subst}
+use mathlib.Core.List.{List}
 use denote.Ref.{now}
 use Rattle.slots.specs.declared.Slot.{Slot}
 use Rattle.collector.specs.Starting.{Held}
@@ -18,26 +12,21 @@ use Rattle.collector.proofs.starting.start_word.Reads as reads
 use Rattle.collector.proofs.starting.start_word.Lts as lts
 use Rattle.collector.proofs.starting.put.Reads as put-reads
 
--- src/starting.rt:31:9
 returns : tie.Need-returns
 returns c =
     let a = c .before .before .before .args in
     let e = word-start-none (now (a .word)) (c .if1 .taken) in
     (refl, subst (λ (l : List Slot). Held l (now (a .work)) 0) (sym e) (held-none (now (a .work))))
 
--- src/starting.rt:33:17
 cast-pairs : tie.Need-cast-pairs
 cast-pairs c = search needs
 
--- src/starting.rt:34:5
 put-requires : tie.Need-put-requires
 put-requires c κs = search needs
 
--- src/starting.rt:25:1
 same-length : tie.Need-same-length
 same-length c = search needs
 
--- src/starting.rt:25:1
 returns-2 : tie.Need-returns-2
 returns-2 c =
     let a = c .before .before .before .before .before .before .before .args in

@@ -1,13 +1,10 @@
+-- `exchange` meets its contract. The invariant: the slots of the entries from at on are put and those entries are 0; what is left of the sum is the sum of the entries
+-- between i and at, so that where nothing is left they are 0 as well.
 use borrow.Author.Needs.{needs}
-use borrow.Author.Tests.{lt-ltb, le-ltb, le-leb, lt-leb, eq-eqb, ne-eqb}
 use native.Mathlib.Omega.{arith}
 use mathlib.Core.Path.{_≡_, refl, sym, ap, _∙_, subst}
-use mathlib.Core.List.{List, [], _∷_, _++_}
-use mathlib.Core.Bool.{Bool, true, false, cond, not, _&&_}
-use mathlib.Core.Logic.{⊎-elim}
-use Prim.Native.Nat.{ℕ, zero, suc, _+_, _-_, _*_, _/_, _%_, _≤_, _<_}
-use native.Mathlib.Numerals.{add-one}
-use lib.ListN.{length, getD, set, take, drop, length-set}
+use Prim.Native.Nat.{ℕ, _+_, _-_, _≤_, _<_}
+use lib.ListN.{length, getD, length-set}
 use denote.Ref.{now}
 use Rattle.layout.specs.Header.{rankOf, entries}
 use Rattle.layout.specs.Contents.{rowAt, startOf}
@@ -46,15 +43,12 @@ byte c = omega (arith, c .slice-known3 .given (c .before .before .loop .at - 1))
 part : (c : tie.In-loop Inv-loop μ-loop) → getD (c .before .loop .vector) (c .before .loop .at - 1) 0 ≤ c .before .loop .left
 part c = met-part (c .before .loop .inv .1) (some c)
 
--- src/entries.rt:94:9
 row-of-requires : tie.Need-row-of-requires Inv-loop μ-loop
 row-of-requires c κs = search needs
 
--- src/entries.rt:95:15
 cast-low : tie.Need-cast-low Inv-loop μ-loop
 cast-low c = search needs
 
--- src/entries.rt:99:5
 loop-holds : tie.Need-loop-holds Inv-loop μ-loop
 loop-holds c =
     let start = c .before .before .before .before .before in
@@ -62,35 +56,27 @@ loop-holds c =
     let m = met-start (now (a .numbers)) (a .i .0) (now (a .vector)) (now (a .work)) (a .depth) (omega arith) (omega arith) in
     (refl, subst (λ (x : ℕ). Met (now (a .numbers)) (a .i .0) (now (a .vector)) (stack (now (a .work)) (a .depth)) (length (now (a .vector))) x (now (a .vector)) (now (a .work)) (a .depth)) (sym (start .pre .1 .1 .1 .1 .0)) m)
 
--- src/entries.rt:100:9
 sub-at : tie.Need-sub-at Inv-loop μ-loop
 sub-at c = search needs
 
--- src/entries.rt:101:17
 slice-read-b : tie.Need-slice-read-b Inv-loop μ-loop
 slice-read-b c = omega (arith, more (c .before), long (c .before .before))
 
--- src/entries.rt:103:21
 cast-left : tie.Need-cast-left Inv-loop μ-loop
 cast-left c = omega (arith, byte (c .before))
 
--- src/entries.rt:103:13
 sub-left : tie.Need-sub-left Inv-loop μ-loop
 sub-left c = part (c .before .before)
 
--- src/entries.rt:104:13
 slice-write-vector : tie.Need-slice-write-vector Inv-loop μ-loop
 slice-write-vector c = omega (arith, more (c .before .before), long (c .before .before .before))
 
--- src/entries.rt:105:54
 sub-span-at : tie.Need-sub-span-at Inv-loop μ-loop
 sub-span-at c = omega (arith, more (c .before .before))
 
--- src/entries.rt:105:47
 add-span-at : tie.Need-add-span-at Inv-loop μ-loop
 add-span-at c = search needs
 
--- src/entries.rt:105:17
 span-at-requires : tie.Need-span-at-requires Inv-loop μ-loop
 span-at-requires c κs =
     let start = c .before .before .before .before .before .before .before .before .before in
@@ -105,15 +91,12 @@ span-at-requires c κs =
     let in-a-row : rowAt n i + (at - 1 - i) < entries n = in-row n i (at - 1 - i) (m .most) (omega arith) (omega (arith, l, w)) in
     (start .pre .0, (m .whole, omega (arith, r, e, in-a-row)))
 
--- src/entries.rt:106:47
 add-t20 : tie.Need-add-t20 Inv-loop μ-loop
 add-t20 c = search needs
 
--- src/entries.rt:106:46
 cast-t24 : tie.Need-cast-t24 Inv-loop μ-loop
 cast-t24 c = search needs
 
--- src/entries.rt:106:13
 put-entry-requires : tie.Need-put-entry-requires Inv-loop μ-loop
 put-entry-requires c κs =
     let start = c .before .before .before .before .before .before .before .before .before .before .before in
@@ -135,21 +118,17 @@ put-entry-requires c κs =
 row-is : (c : tie.After-row-of Inv-loop μ-loop) → c .row-of .result ≡ rowAt (rankOf (now (c .before .before .before .before .args .numbers))) (c .before .before .before .before .args .i .0)
 row-is c = c .row-of .ensures .0 ∙ ap (λ (x : ℕ). rowAt x (c .before .before .before .before .args .i .0)) (c .before .before .before .before .pre .0 .rank)
 
--- src/entries.rt:107:29
 mul-if2 : tie.Need-mul-if2 Inv-loop μ-loop
 mul-if2 c =
     let n = met-near (c .before .before .before .before .before .before .before .before .loop .inv .1) (some (c .before .before .before .before .before .before .before)) (row-is (c .before .before .before .before .before .before .before .before .before .before)) (c .before .before .before .before .span-at .ensures) (c .before .before .put-entry .ensures) (byte (c .before .before .before .before .before .before)) in
     omega (arith, n, c .before .before .before .before .before .before .before .before .loop .inv .0)
 
--- src/entries.rt:108:17
 same-length : tie.Need-same-length Inv-loop μ-loop
 same-length c = rw length-set (long (c .before .before .before .before .before .before .before .before .before))
 
--- src/entries.rt:108:17
 same-length-2 : tie.Need-same-length-2 Inv-loop μ-loop
 same-length-2 c = search needs
 
--- src/entries.rt:108:17
 returns : tie.Need-returns Inv-loop μ-loop
 returns c =
     let l = c .before .before .before .before .before .before .before .before .before .loop in
@@ -167,11 +146,9 @@ returns c =
       λ room. absurd (omega (arith, c .if2 .taken, room, put .kept, l .inv .0)),
     )
 
--- src/entries.rt:99:5
 loop-less : tie.Need-loop-less Inv-loop μ-loop
 loop-less c = search needs
 
--- src/entries.rt:99:5
 loop-again : tie.Need-loop-again Inv-loop μ-loop
 loop-again c =
     let l = c .before .before .before .before .before .before .before .before .before .loop in
@@ -180,24 +157,19 @@ loop-again c =
       met-put (l .inv .1) (some (c .before .before .before .before .before .before .before .before)) (row-is (c .before .before .before .before .before .before .before .before .before .before .before)) (c .before .before .before .before .before .span-at .ensures) put (omega (arith, c .if2 .left, put .kept)),
     )
 
--- src/entries.rt:99:5
 loop-less-2 : tie.Need-loop-less-2 Inv-loop μ-loop
 loop-less-2 c = search needs
 
--- src/entries.rt:99:5
 loop-again-2 : tie.Need-loop-again-2 Inv-loop μ-loop
 loop-again-2 c =
     let l = c .before .before .before .loop in (l .inv .0, met-zero (l .inv .1) (some (c .before .before)) (omega (arith, c .if1 .left)))
 
--- src/entries.rt:74:1
 same-length-3 : tie.Need-same-length-3 Inv-loop μ-loop
 same-length-3 c = long (c .before)
 
--- src/entries.rt:74:1
 same-length-4 : tie.Need-same-length-4 Inv-loop μ-loop
 same-length-4 c = search needs
 
--- src/entries.rt:74:1
 returns-2 : tie.Need-returns-2 Inv-loop μ-loop
 returns-2 c =
     let l = c .before .loop in

@@ -1,13 +1,9 @@
+-- `put_copies` meets its contract. The invariant: so many copies of w_ig and (g, 1) stand on the slots that were there.
 use borrow.Author.Needs.{needs}
-use borrow.Author.Tests.{lt-ltb, le-ltb, le-leb, lt-leb, eq-eqb, ne-eqb}
 use native.Mathlib.Omega.{arith}
-use mathlib.Core.Path.{_≡_, refl, sym, ap, _∙_}
-use mathlib.Core.List.{List, [], _∷_, _++_}
-use mathlib.Core.Bool.{Bool, true, false, cond, not, _&&_}
-use mathlib.Core.Logic.{⊎-elim}
-use Prim.Native.Nat.{ℕ, zero, suc, _+_, _-_, _*_, _/_, _%_, _≤_, _<_}
-use native.Mathlib.Numerals.{add-one}
-use lib.ListN.{length, getD, set, take, drop, length-set}
+use mathlib.Core.Path.{_≡_, refl, ap, _∙_}
+use Prim.Native.Nat.{ℕ, _+_, _-_, _*_, _≤_}
+use lib.ListN.{length}
 use denote.Ref.{now}
 use Rattle.slots.specs.Slots.{stack}
 use Rattle.slots.specs.declared.Slot.the-variants.{Relation}
@@ -27,19 +23,15 @@ Inv-loop work₀ depth g b span end d₀ copies₀ work d copies =
 abbrev μ-loop : tie.MeasureT-loop
 μ-loop work₀ depth g b span end d₀ copies₀ work d copies = b - copies
 
--- src/entries.rt:23:23
 mul-end : tie.Need-mul-end Inv-loop μ-loop
 mul-end c = search needs
 
--- src/entries.rt:23:15
 add-end : tie.Need-add-end Inv-loop μ-loop
 add-end c = search needs
 
--- src/entries.rt:24:21
 mul-if1 : tie.Need-mul-if1 Inv-loop μ-loop
 mul-if1 c = search needs
 
--- src/entries.rt:25:9
 returns : tie.Need-returns Inv-loop μ-loop
 returns c =
     let a = c .before .before .args in
@@ -49,35 +41,27 @@ returns c =
       stacked = λ room. absurd (omega arith);
     }
 
--- src/entries.rt:29:5
 loop-holds : tie.Need-loop-holds Inv-loop μ-loop
 loop-holds c = search needs
 
--- src/entries.rt:30:9
 push-requires : tie.Need-push-requires Inv-loop μ-loop
 push-requires c κs = search needs
 
--- src/entries.rt:38:20
 add-push : tie.Need-add-push Inv-loop μ-loop
 add-push c = search needs
 
--- src/entries.rt:38:9
 push-requires-2 : tie.Need-push-requires-2 Inv-loop μ-loop
 push-requires-2 c κs = search needs
 
--- src/entries.rt:39:9
 add-d : tie.Need-add-d Inv-loop μ-loop
 add-d c = search needs
 
--- src/entries.rt:40:9
 add-copies : tie.Need-add-copies Inv-loop μ-loop
 add-copies c = search needs
 
--- src/entries.rt:29:5
 loop-less : tie.Need-loop-less Inv-loop μ-loop
 loop-less c = search needs
 
--- src/entries.rt:29:5
 loop-again : tie.Need-loop-again Inv-loop μ-loop
 loop-again c =
     let at = c .before .before .before .before .before .before .before .before .before in
@@ -88,11 +72,9 @@ loop-again c =
     (c .before .before .before .before .before .before .push .ensures) (c .before .before .push2 .ensures) in
     (omega arith, omega (arith, i .1), m .0 ∙ i .2, m .1)
 
--- src/entries.rt:16:1
 same-length : tie.Need-same-length Inv-loop μ-loop
 same-length c = search needs
 
--- src/entries.rt:16:1
 returns-2 : tie.Need-returns-2 Inv-loop μ-loop
 returns-2 c =
     let a = c .before .before .before .before .args in

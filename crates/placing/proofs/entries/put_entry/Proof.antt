@@ -1,15 +1,12 @@
+-- `put_entry` meets its contract: nothing for 0, one power where w_ig is empty, else b copies.
 use borrow.Author.Needs.{needs}
-use borrow.Author.Tests.{lt-ltb, le-ltb, le-leb, lt-leb, eq-eqb, ne-eqb}
 use native.Mathlib.Omega.{arith}
 use mathlib.Core.Path.{_≡_, refl, sym, ap, _∙_}
-use mathlib.Core.List.{List, [], _∷_, _++_}
-use mathlib.Core.Bool.{Bool, true, false, cond, not, _&&_}
-use mathlib.Core.Logic.{⊎-elim}
-use Prim.Native.Nat.{ℕ, zero, suc, _+_, _-_, _*_, _/_, _%_, _≤_, _<_}
+use mathlib.Core.List.{_∷_}
+use Prim.Native.Nat.{suc}
 use native.Mathlib.Numerals.{add-one}
-use lib.ListN.{length, getD, set, take, drop, length-set}
+use lib.ListN.{length}
 use denote.Ref.{now}
-use Rattle.slots.specs.declared.Slot.{Slot}
 use Rattle.slots.specs.Slots.{stack, powerOf}
 use Rattle.slots.proofs.Stores.{length-stack}
 use Rattle.slots.proofs.Brings.{brought-from}
@@ -22,7 +19,6 @@ use Rattle.placing.proofs.entries.put_entry.Lts as lts
 use Rattle.placing.proofs.entries.put_copies.Reads as put-copies-reads
 use Rattle.slots.proofs.push.Reads as push-reads
 
--- src/entries.rt:58:9
 returns : tie.Need-returns
 returns c =
     let a = c .before .before .args in
@@ -30,15 +26,12 @@ returns c =
     let e : stack ws (a .depth) ≡ entrySlots (a .span) (a .g) (a .b) (stack ws (a .depth)) = sym (entry-none (a .span) (a .g) (stack ws (a .depth)) (a .b) (c .if1 .taken)) in
     record { kept = refl; depth = sym (length-stack ws (a .depth)) ∙ ap length e; stacked = λ room. e }
 
--- src/entries.rt:61:9
 put-copies-requires : tie.Need-put-copies-requires
 put-copies-requires c κs = search needs
 
--- src/entries.rt:61:9
 same-length : tie.Need-same-length
 same-length c = search needs
 
--- src/entries.rt:61:9
 returns-2 : tie.Need-returns-2
 returns-2 c =
     let at = c .before .before .before .before .before .before .before .before in
@@ -47,19 +40,15 @@ returns-2 c =
     (sym (entry-copies (a .span) (a .g) (stack (now (a .work)) (a .depth)) (a .b) (c .before .before .before .before .before .before .if1 .left) (c .before .before .before .before .if2 .taken)))
     refl (c .before .before .put-copies .ensures)
 
--- src/entries.rt:63:26
 add-if3 : tie.Need-add-if3
 add-if3 c = search needs
 
--- src/entries.rt:63:21
 mul-if3 : tie.Need-mul-if3
 mul-if3 c = search needs
 
--- src/entries.rt:64:16
 add-result : tie.Need-add-result
 add-result c = search needs
 
--- src/entries.rt:64:9
 returns-3 : tie.Need-returns-3
 returns-3 c =
     let a = c .before .before .before .before .before .args in
@@ -72,19 +61,15 @@ returns-3 c =
       stacked = λ room. absurd (omega arith);
     }
 
--- src/entries.rt:66:5
 push-requires : tie.Need-push-requires
 push-requires c κs = search needs
 
--- src/entries.rt:67:5
 add-result-2 : tie.Need-add-result-2
 add-result-2 c = search needs
 
--- src/entries.rt:51:1
 same-length-2 : tie.Need-same-length-2
 same-length-2 c = search needs
 
--- src/entries.rt:51:1
 returns-4 : tie.Need-returns-4
 returns-4 c =
     let a = c .before .before .before .before .before .before .before .before .before .args in

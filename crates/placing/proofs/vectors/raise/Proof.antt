@@ -1,13 +1,9 @@
+-- `raise` meets its contract: on a vector whose entries above i are 0, entry i is raised, and where it reaches p the exponents of w_i are set down.
 use borrow.Author.Needs.{needs}
-use borrow.Author.Tests.{lt-ltb, le-ltb, le-leb, lt-leb, eq-eqb, ne-eqb}
 use native.Mathlib.Omega.{arith}
-use mathlib.Core.Path.{_≡_, refl, sym, ap, _∙_, subst}
-use mathlib.Core.List.{List, [], _∷_, _++_}
-use mathlib.Core.Bool.{Bool, true, false, cond, not, _&&_}
-use mathlib.Core.Logic.{⊎-elim}
-use Prim.Native.Nat.{ℕ, zero, suc, _+_, _-_, _*_, _/_, _%_, _≤_, _<_}
-use native.Mathlib.Numerals.{add-one}
-use lib.ListN.{length, getD, set, take, drop, length-set}
+use mathlib.Core.Path.{_≡_, sym, ap, _∙_, subst}
+use Prim.Native.Nat.{ℕ, _-_, _<_}
+use lib.ListN.{length, getD, set, length-set}
 use denote.Ref.{now}
 use Rattle.layout.specs.Header.{rankOf, exponentOf}
 use Rattle.layout.specs.Relations.{presentation, settled}
@@ -27,35 +23,27 @@ use Rattle.placing.proofs.vectors.set_down.Reads as set-down-reads
 small : (c : tie.Start) → getD (now (c .args .vector)) (c .args .i .0 - 1) 0 < 251
 small c = omega (arith, c .pre .1 .1 .1 .0, accepted (now (c .args .numbers)) (c .pre .0) .prime-most)
 
--- src/vectors.rt:51:14
 cast-at : tie.Need-cast-at
 cast-at c = search needs
 
--- src/vectors.rt:51:14
 sub-at : tie.Need-sub-at
 sub-at c = search needs
 
--- src/vectors.rt:52:13
 slice-read-a : tie.Need-slice-read-a
 slice-read-a c = search needs
 
--- src/vectors.rt:52:13
 add-a : tie.Need-add-a
 add-a c = omega (arith, small (c .before .before .before .before))
 
--- src/vectors.rt:53:8
 cast-if1 : tie.Need-cast-if1
 cast-if1 c = omega (arith, small (c .before .before .before .before))
 
--- src/vectors.rt:54:9
 slice-write-vector : tie.Need-slice-write-vector
 slice-write-vector c = search needs
 
--- src/vectors.rt:55:9
 same-length : tie.Need-same-length
 same-length c = search needs
 
--- src/vectors.rt:55:9
 returns : tie.Need-returns
 returns c =
     let start = c .before .before .before .before .before .before in
@@ -63,15 +51,12 @@ returns c =
     raised-lower v (start .args .i .0) (start .pre .1 .1 .0 .0) (omega (arith, start .pre .1 .1 .0)) (start .pre .1 .1 .1 .1) (presentation (now (start .args .numbers)))
     (λ q. c .if1 .taken (omega (arith, q, start .pre .1 .0 .prime)))
 
--- src/vectors.rt:57:5
 slice-write-vector-2 : tie.Need-slice-write-vector-2
 slice-write-vector-2 c = search needs
 
--- src/vectors.rt:58:22
 stretch-of-requires : tie.Need-stretch-of-requires
 stretch-of-requires c κs = search needs
 
--- src/vectors.rt:58:5
 set-down-requires : tie.Need-set-down-requires
 set-down-requires c κs =
     let start = c .before .before .before .before .before .before .before .before in
@@ -84,12 +69,10 @@ set-down-requires c κs =
     (subst (Settable (rankOf nums)) (sym (c .stretch-of .ensures .0))
     (settable (exponentOf nums) (rankOf nums) (λ g. omega (arith, few)) pairs))
 
--- src/vectors.rt:43:1
 same-length-2 : tie.Need-same-length-2
 same-length-2 c =
     let start = c .before .before .before .before .before .before .before .before .before .before .before in c .before .before .set-down .kept .0 ∙ length-set (now (start .args .vector)) (start .args .i .0 - 1) 0
 
--- src/vectors.rt:43:1
 returns-2 : tie.Need-returns-2
 returns-2 c =
     let start = c .before .before .before .before .before .before .before .before .before .before .before in

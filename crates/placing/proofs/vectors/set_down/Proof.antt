@@ -1,13 +1,9 @@
+-- `set_down` meets its contract. The invariant: the pairs before at are set down, and those from at on are left to settle.
 use borrow.Author.Needs.{needs}
-use borrow.Author.Tests.{lt-ltb, le-ltb, le-leb, lt-leb, eq-eqb, ne-eqb}
 use native.Mathlib.Omega.{arith}
-use mathlib.Core.Path.{_≡_, refl, sym, ap, _∙_}
-use mathlib.Core.List.{List, [], _∷_, _++_}
-use mathlib.Core.Bool.{Bool, true, false, cond, not, _&&_}
-use mathlib.Core.Logic.{⊎-elim}
-use Prim.Native.Nat.{ℕ, zero, suc, _+_, _-_, _*_, _/_, _%_, _≤_, _<_}
-use native.Mathlib.Numerals.{add-one}
-use lib.ListN.{length, getD, set, take, drop, length-set}
+use mathlib.Core.Path.{_≡_, sym, _∙_}
+use Prim.Native.Nat.{_+_, _-_, _≤_, _<_}
+use lib.ListN.{length, getD, drop, length-set}
 use denote.Ref.{now}
 use Rattle.layout.specs.Relations.{settled}
 use Rattle.placing.specs.Settable.{Settable}
@@ -25,59 +21,45 @@ Inv-loop vector₀ stretch at₀ vector at =
 abbrev μ-loop : tie.MeasureT-loop
 μ-loop vector₀ stretch at₀ vector at = length stretch - at
 
--- src/vectors.rt:48:5
 loop-holds : tie.Need-loop-holds Inv-loop μ-loop
 loop-holds c = search needs
 
--- src/vectors.rt:48:11
 add-loop : tie.Need-add-loop Inv-loop μ-loop
 add-loop c = search needs
 
--- src/vectors.rt:49:17
 mul-g : tie.Need-mul-g Inv-loop μ-loop
 mul-g c = search needs
 
--- src/vectors.rt:49:17
 shared-slice-read-g : tie.Need-shared-slice-read-g Inv-loop μ-loop
 shared-slice-read-g c = search needs
 
--- src/vectors.rt:49:17
 cast-g : tie.Need-cast-g Inv-loop μ-loop
 cast-g c = omega (arith, c .shared-slice-known .given (c .before .before .loop .at))
 
--- src/vectors.rt:50:33
 add-vector : tie.Need-add-vector Inv-loop μ-loop
 add-vector c = search needs
 
--- src/vectors.rt:50:25
 mul-vector : tie.Need-mul-vector Inv-loop μ-loop
 mul-vector c = search needs
 
--- src/vectors.rt:50:25
 shared-slice-read-vector : tie.Need-shared-slice-read-vector Inv-loop μ-loop
 shared-slice-read-vector c = search needs
 
--- src/vectors.rt:50:25
 cast-vector : tie.Need-cast-vector Inv-loop μ-loop
 cast-vector c = omega (arith, (settable-front (now (c .before .before .before .before .args .stretch)) (c .before .before .before .loop .at) (length (now (c .before .before .before .before .args .vector))) (omega arith) (c .before .before .before .loop .inv .2)) .0 .2)
 
--- src/vectors.rt:50:16
 sub-vector : tie.Need-sub-vector Inv-loop μ-loop
 sub-vector c = omega (arith, (settable-front (now (c .before .before .before .before .args .stretch)) (c .before .before .before .loop .at) (length (now (c .before .before .before .before .args .vector))) (omega arith) (c .before .before .before .loop .inv .2)) .0 .0)
 
--- src/vectors.rt:50:9
 slice-write-vector : tie.Need-slice-write-vector Inv-loop μ-loop
 slice-write-vector c = let f = settable-front (now (c .before .before .before .before .args .stretch)) (c .before .before .before .loop .at) (length (now (c .before .before .before .before .args .vector))) (omega arith) (c .before .before .before .loop .inv .2) in omega (arith, f .0 .0, f .0 .1, c .before .before .before .loop .inv .1)
 
--- src/vectors.rt:51:9
 add-at : tie.Need-add-at Inv-loop μ-loop
 add-at c = search needs
 
--- src/vectors.rt:48:5
 loop-less : tie.Need-loop-less Inv-loop μ-loop
 loop-less c = search needs
 
--- src/vectors.rt:48:5
 loop-again : tie.Need-loop-again Inv-loop μ-loop
 loop-again c =
     let v = c .before .before .before .loop .vector in
@@ -91,11 +73,9 @@ loop-again c =
       sym (settled-front s at v h) ∙ c .before .before .before .loop .inv .3,
     )
 
--- src/vectors.rt:43:1
 same-length : tie.Need-same-length Inv-loop μ-loop
 same-length c = search needs
 
--- src/vectors.rt:43:1
 returns : tie.Need-returns Inv-loop μ-loop
 returns c =
     let l = c .before .loop in

@@ -1,13 +1,9 @@
+-- `tail_sum` meets its contract. The invariant: the sum so far with that of the entries from at on is the whole sum.
 use borrow.Author.Needs.{needs}
-use borrow.Author.Tests.{lt-ltb, le-ltb, le-leb, lt-leb, eq-eqb, ne-eqb}
 use native.Mathlib.Omega.{arith}
-use mathlib.Core.Path.{_≡_, refl, sym, ap, _∙_}
-use mathlib.Core.List.{List, [], _∷_, _++_}
-use mathlib.Core.Bool.{Bool, true, false, cond, not, _&&_}
-use mathlib.Core.Logic.{⊎-elim}
-use Prim.Native.Nat.{ℕ, zero, suc, _+_, _-_, _*_, _/_, _%_, _≤_, _<_}
-use native.Mathlib.Numerals.{add-one}
-use lib.ListN.{length, getD, set, take, drop, length-set}
+use mathlib.Core.Path.{_≡_}
+use Prim.Native.Nat.{_+_, _-_, _*_, _≤_, _<_}
+use lib.ListN.{length, getD, drop}
 use denote.Ref.{now}
 use Rattle.theory.specs.Placing.{total}
 use Rattle.placing.proofs.Tails.{total-from, total-none}
@@ -22,35 +18,27 @@ Inv-loop vector sum₀ at₀ sum at = (at ≤ length vector) × (sum ≤ 255 * a
 abbrev μ-loop : tie.MeasureT-loop
 μ-loop vector sum₀ at₀ sum at = length vector - at
 
--- src/vectors.rt:16:18
 cast-at : tie.Need-cast-at Inv-loop μ-loop
 cast-at c = search needs
 
--- src/vectors.rt:17:5
 loop-holds : tie.Need-loop-holds Inv-loop μ-loop
 loop-holds c = search needs
 
--- src/vectors.rt:18:16
 shared-slice-read-sum : tie.Need-shared-slice-read-sum Inv-loop μ-loop
 shared-slice-read-sum c = search needs
 
--- src/vectors.rt:18:16
 cast-sum : tie.Need-cast-sum Inv-loop μ-loop
 cast-sum c = omega (arith, c .shared-slice-known .given (c .before .before .loop .at))
 
--- src/vectors.rt:18:9
 add-sum : tie.Need-add-sum Inv-loop μ-loop
 add-sum c = omega (arith, c .shared-slice-known .given (c .before .before .loop .at))
 
--- src/vectors.rt:19:9
 add-at : tie.Need-add-at Inv-loop μ-loop
 add-at c = search needs
 
--- src/vectors.rt:17:5
 loop-less : tie.Need-loop-less Inv-loop μ-loop
 loop-less c = search needs
 
--- src/vectors.rt:17:5
 loop-again : tie.Need-loop-again Inv-loop μ-loop
 loop-again c =
     let v = now (c .before .before .before .before .args .vector) in
@@ -60,7 +48,6 @@ loop-again c =
     let b = c .shared-slice-known .given at in
     (omega arith, omega arith, omega (arith, c .before .before .loop .inv .2))
 
--- src/vectors.rt:11:1
 returns : tie.Need-returns Inv-loop μ-loop
 returns c =
     let v = now (c .before .before .before .args .vector) in

@@ -29,7 +29,6 @@ abbrev put-decimal-below : ℕ → In 1 put-decimal-kinds.ps
 put-decimal-below t =
     and 1 put-decimal-kinds.ps (falls 1 put-decimal-kinds.ps _<_ μ-put-decimal t) put-decimal.Pre
 
--- src/writing.rt:45:34
 put-decimal-digit-requires : (t : ℕ) → put-decimal-lts.Need-digit-requires (
   digit-reads.Asked,
   digit-reads.Learnt,
@@ -40,7 +39,6 @@ put-decimal-digit-requires : (t : ℕ) → put-decimal-lts.Need-digit-requires (
 ) (put-decimal-at t) put-decimal.Post
 put-decimal-digit-requires t c κs = search needs
 
--- src/writing.rt:45:9
 put-decimal-put-byte-requires : (t : ℕ) → put-decimal-lts.Need-put-byte-requires (
   digit-reads.Asked,
   digit-reads.Learnt,
@@ -54,7 +52,6 @@ put-decimal-put-byte-requires t c κs =
     let at-start = at-if1 .before .before in
     omega (arith, at-start .pre .1, length-one (at-start .args .number) (at-if1 .if1 .taken))
 
--- src/writing.rt:45:9
 put-decimal-same-length : (t : ℕ) → put-decimal-lts.Need-same-length (
   digit-reads.Asked,
   digit-reads.Learnt,
@@ -65,7 +62,6 @@ put-decimal-same-length : (t : ℕ) → put-decimal-lts.Need-same-length (
 ) (put-decimal-at t) put-decimal.Post
 put-decimal-same-length t c = search needs
 
--- src/writing.rt:45:9
 put-decimal-returns : (t : ℕ) → put-decimal-lts.Need-returns (
   digit-reads.Asked,
   digit-reads.Learnt,
@@ -83,7 +79,6 @@ put-decimal-returns t c =
     (ap (λ (b : ℕ). b ∷ []) (at-digit .digit .ensures) ∙ sym (decimal-one (at-start .args .number) (at-if1 .if1 .taken)))
     (at-put-byte .put-byte .ensures)
 
--- src/writing.rt:47:9
 put-decimal-put-decimal-requires : (t : ℕ) → put-decimal-lts.Need-put-decimal-requires (
   digit-reads.Asked,
   digit-reads.Learnt,
@@ -98,7 +93,6 @@ put-decimal-put-decimal-requires t c κs =
       omega (arith, at-start .pre .1, length-more (at-start .args .number) (c .before .if1 .left)),
     )
 
--- src/writing.rt:48:25
 put-decimal-digit-requires-2 : (t : ℕ) → put-decimal-lts.Need-digit-requires-2 (
   digit-reads.Asked,
   digit-reads.Learnt,
@@ -109,7 +103,6 @@ put-decimal-digit-requires-2 : (t : ℕ) → put-decimal-lts.Need-digit-requires
 ) (put-decimal-at t) put-decimal.Post
 put-decimal-digit-requires-2 t c κs = search needs
 
--- src/writing.rt:48:5
 put-decimal-put-byte-requires-2 : (t : ℕ) → put-decimal-lts.Need-put-byte-requires-2 (
   digit-reads.Asked,
   digit-reads.Learnt,
@@ -125,7 +118,6 @@ put-decimal-put-byte-requires-2 t c κs =
     let more = length-more (at-start .args .number) (at-if1 .if1 .left) in
     omega (arith, at-start .pre .1, at-put-decimal .put-decimal .ensures .after, at-put-decimal .put-decimal .kept .0, more)
 
--- src/writing.rt:40:1
 put-decimal-same-length-2 : (t : ℕ) → put-decimal-lts.Need-same-length-2 (
   digit-reads.Asked,
   digit-reads.Learnt,
@@ -136,7 +128,6 @@ put-decimal-same-length-2 : (t : ℕ) → put-decimal-lts.Need-same-length-2 (
 ) (put-decimal-at t) put-decimal.Post
 put-decimal-same-length-2 t c = search needs
 
--- src/writing.rt:40:1
 put-decimal-returns-2 : (t : ℕ) → put-decimal-lts.Need-returns-2 (
   digit-reads.Asked,
   digit-reads.Learnt,

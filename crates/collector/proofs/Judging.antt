@@ -18,7 +18,7 @@ use Rattle.theory.proofs.Words.{normal-length}
 use Rattle.layout.specs.Header.{rankOf, exponentOf}
 use Rattle.layout.specs.Relations.{presentation}
 use Rattle.layout.specs.Relations as relations
-use Rattle.slots.specs.Pieces.{letters, pairLetters, Pairs, AllWellFormed}
+use Rattle.slots.specs.Pieces.{letters, Pairs, AllWellFormed}
 use Rattle.collector.specs.Inputs.{entriesRight, vectorRight, pairsRight, mostNumbers, wordRight, wordSlots, powerSlots}
 use Rattle.collector.proofs.Looking.{vector-long, test-pair}
 
@@ -89,11 +89,6 @@ pub word-formed : (nums w : List ℕ) → wordRight nums w ≡ true → AllWellF
 word-formed nums [] h = tt
 word-formed nums (g ∷ w) h = (word-pairs nums (g ∷ w) h, tt)
 
-pairs-letters : (w : List ℕ) → pairLetters w ≡ relations.letters w
-pairs-letters [] = refl
-pairs-letters (g ∷ []) = refl
-pairs-letters (g ∷ a ∷ w) = ap (λ (u : Word). replicate a g ++ u) (pairs-letters w)
-
 pub word-letters : (w : List ℕ) → letters (wordSlots w) ≡ relations.letters w
 word-letters [] = refl
-word-letters (g ∷ w) = append-nil (pairLetters (g ∷ w)) ∙ pairs-letters (g ∷ w)
+word-letters (g ∷ w) = append-nil (relations.letters (g ∷ w))

@@ -1,7 +1,7 @@
 -- The numbers of a refused check: 1 to 6 without an overlap, 9 or 10 with one.
 --
 -- Main result: `verdict-numbered`.
-use mathlib.Core.Path.{_≡_, refl, sym, ap, _∙_, subst}
+use mathlib.Core.Path.{_≡_, refl, sym, subst}
 use mathlib.Core.List.{List, [], _∷_}
 use mathlib.Core.Bool.{Bool, true, false}
 use Prim.Native.Nat.{ℕ, zero, suc, _+_, _-_, _≤_}

@@ -21,21 +21,13 @@ use Rattle.layout.specs.Relations as relations
 use Rattle.layout.specs.Relations.{presentation}
 use Rattle.layout.proofs.Accepted.{accepted}
 use Rattle.layout.proofs.Valid.{valid, power-word}
-use Rattle.slots.specs.Pieces.{Piece, power, unread, pairLetters, letters, Pairs, AllWellFormed}
+use Rattle.slots.specs.Pieces.{Piece, power, unread, letters, Pairs, AllWellFormed}
 use Rattle.collector.specs.Run.{Outcome, done, refused, Runs, outcome, begun}
+use Rattle.slots.proofs.Letters.{letters-unread}
 use Rattle.collector.proofs.Grounding.{relation-formed}
 use Rattle.collector.proofs.Outcomes.{runs-outcome, runs-collects}
 use Rattle.consistency.specs.Sides.{worded, leftPieces, rightPieces}
 use Rattle.consistency.specs.Check.{sideOutcome}
-
-pairs-letters : (w : List ℕ) → pairLetters w ≡ relations.letters w
-pairs-letters [] = refl
-pairs-letters (g ∷ []) = refl
-pairs-letters (g ∷ a ∷ w) = ap (λ (u : Word). replicate a g ++ u) (pairs-letters w)
-
-unread-letters : (w : List ℕ) (below : List Piece) → letters (unread w below) ≡ relations.letters w ++ letters below
-unread-letters [] below = refl
-unread-letters (g ∷ w) below = ap (λ (u : Word). u ++ letters below) (pairs-letters (g ∷ w))
 
 unread-formed : (n : ℕ) (w : List ℕ) (below : List Piece) → Pairs n w → AllWellFormed n below → AllWellFormed n (unread w below)
 unread-formed n [] below p f = f
@@ -54,20 +46,20 @@ module _ (nums : List ℕ) (accepts : judged nums ≡ 0) where
   -- w_i on what follows it spells the theory's w_i.
   power-letters : (i : ℕ) (below : List Piece) → 1 ≤ i → i ≤ n → letters (worded nums i i below) ≡ powerWord P i ++ letters below
   power-letters i below l h =
-      unread-letters (stretchOf nums i i) below
+      letters-unread (stretchOf nums i i) below
       ∙ ap (λ (u : Word). u ++ letters below) (sym (power-word nums accepts i (n - i) l (omega arith)))
 
   pub left-letters : (o : Overlap) → Among P 1 o → letters (leftPieces nums o) ≡ leftSide P o
-  left-letters (triple i j k) a = ap {B = Word} (λ u. j ∷ k ∷ u) (unread-letters (stretchOf nums j k) (power i 1 ∷ []))
+  left-letters (triple i j k) a = ap {B = Word} (λ u. j ∷ k ∷ u) (letters-unread (stretchOf nums j k) (power i 1 ∷ []))
   left-letters (upper i j) a = power-letters j (power i 1 ∷ []) (omega arith) (a .2)
   left-letters (lower i j) a =
       ap {B = Word} (λ u. i ∷ j ∷ u)
-      (unread-letters (stretchOf nums i j) (power i (exponentOf nums i - 1) ∷ [])
+      (letters-unread (stretchOf nums i j) (power i (exponentOf nums i - 1) ∷ [])
       ∙ ap {B = Word} (λ u. relations.letters (stretchOf nums i j) ++ u) (append-nil (replicate (exponentOf nums i - 1) i)))
   left-letters (single i) a = power-letters i (power i 1 ∷ []) (a .0) (a .1)
 
   tail-letters : (i j : ℕ) → letters (worded nums i j []) ≡ relations.letters (stretchOf nums i j)
-  tail-letters i j = unread-letters (stretchOf nums i j) [] ∙ append-nil (relations.letters (stretchOf nums i j))
+  tail-letters i j = letters-unread (stretchOf nums i j) [] ∙ append-nil (relations.letters (stretchOf nums i j))
 
   pub right-letters : (o : Overlap) → Among P 1 o → letters (rightPieces nums o) ≡ rightSide P o
   right-letters (triple i j k) a = ap {B = Word} (λ u. k ∷ i ∷ j ∷ u) (tail-letters i j)

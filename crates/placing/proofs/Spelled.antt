@@ -18,7 +18,8 @@ use Rattle.layout.specs.Header.{rankOf}
 use Rattle.layout.specs.Contents.{stretchOf}
 use Rattle.layout.specs.Relations.{presentation}
 use Rattle.slots.specs.Slots.{onTop, lessened}
-use Rattle.slots.specs.Pieces.{Piece, power, string, letters, pairLetters, unread, leading, taken, Pairs, AllWellFormed}
+use Rattle.layout.specs.Relations.{letters as pairLetters}
+use Rattle.slots.specs.Pieces.{Piece, power, string, letters, unread, leading, taken, Pairs, AllWellFormed}
 use Rattle.slots.proofs.Letters.{leading-one}
 use Rattle.placing.specs.Exchange.{copies, exchanged, exchange}
 use Rattle.placing.specs.Step.{placingOf, slotsAfter}

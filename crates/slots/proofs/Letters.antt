@@ -1,6 +1,6 @@
 -- Taking the top piece takes one letter off the word that the pieces spell.
 --
--- Main laws: `letters-taken`, `leading-one`.
+-- Main laws: `letters-unread`, `letters-taken`, `leading-one`.
 use mathlib.Core.Path.{_≡_, refl, sym, ap, _∙_}
 use mathlib.Core.List.{List, [], _∷_, _++_, append-assoc}
 use Prim.Native.Nat.{ℕ, zero, suc, _-_, _≤_}
@@ -9,7 +9,8 @@ use lib.ListN.{length, replicate}
 use Rattle.theory.specs.Presentation.{Word}
 use Rattle.slots.specs.Slots.{lessened}
 use Rattle.slots.proofs.OnTop.{put}
-use Rattle.slots.specs.Pieces.{Piece, power, string, letters, pairLetters, unread, leading, taken, AllWellFormed}
+use Rattle.layout.specs.Relations.{letters as pairLetters}
+use Rattle.slots.specs.Pieces.{Piece, power, string, letters, unread, leading, taken, AllWellFormed}
 
 -- One letter of a power.
 letters-lessened
@@ -21,7 +22,7 @@ letters-lessened i (suc (suc e)) below h =
     ap (λ (k : ℕ). i ∷ (replicate k i ++ letters below)) less
     ∙ ap (λ (l : List Piece). i ∷ letters l) (sym (put 1 (suc (suc e)) (power i (suc (suc e) - 1)) below (omega arith)))
 
-letters-unread : (pairs : List ℕ) (below : List Piece) → letters (unread pairs below) ≡ pairLetters pairs ++ letters below
+pub letters-unread : (pairs : List ℕ) (below : List Piece) → letters (unread pairs below) ≡ pairLetters pairs ++ letters below
 letters-unread [] below = refl
 letters-unread (g ∷ pairs) below = refl
 

@@ -5,6 +5,7 @@ use mathlib.Core.List.{List, [], _∷_, _++_, map}
 use Prim.Native.Nat.{ℕ, _*_, _≤_}
 use lib.ListN.{take, drop, replicate}
 use Rattle.theory.specs.Presentation.{Word}
+use Rattle.layout.specs.Relations.{letters as pairLetters}
 use Rattle.slots.specs.declared.Slot.{Slot}
 use Rattle.slots.specs.declared.Slot.the-variants.{Power, Relation, Input}
 use Rattle.slots.specs.Slots.{stack, lessened}
@@ -28,12 +29,7 @@ meaning bodies word (Input s k) = string (stretch word s k)
 abbrev pub pieces : List ℕ → List ℕ → List ℕ → ℕ → List Piece
 pieces bodies word ws d = map (meaning bodies word) (stack ws d)
 
--- A pair (g, a) is a letters g.
-abbrev pub pairLetters : List ℕ → Word
-pairLetters [] = []
-pairLetters (g ∷ []) = []
-pairLetters (g ∷ a ∷ pairs) = replicate a g ++ pairLetters pairs
-
+-- The letters of a slot: a power's, or those that its pairs spell.
 abbrev pub pieceLetters : Piece → Word
 pieceLetters (power i e) = replicate e i
 pieceLetters (string pairs) = pairLetters pairs

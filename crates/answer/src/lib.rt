@@ -1,5 +1,7 @@
 // From the bytes of a file to the line that the program prints: the rule on the number of bytes, the numbers, the check, the line.
 // `program_line` is the program as a function; only reading and writing are left to do.
+#![tactic(auto)]
+
 ghost use Rattle.std.specs.Prelude.{◌≡◌, ◌/◌, ◌≤◌, length};
 ghost use Rattle.text.specs.Added.{Added};
 ghost use Rattle.answer.specs.File.{bytes_right, prime_in, rank_in, check_line, answer_of, program_line};
@@ -26,7 +28,7 @@ pub fn bytes_right(bytes: &[u8]) -> bool
 }
 
 // p and n as the line prints them.
-#[derive(Drop)]
+#[derive(Clone, Copy)]
 struct Named {
     prime: Exponent,
     rank: Generator,

@@ -1,4 +1,6 @@
 // The consistency check and its verdict.
+#![tactic(auto)]
+
 pub mod closing; // the vectors and the workspace as the check leaves them
 pub mod judging; // judging one overlap
 pub mod searching; // the order of the overlaps, and the first that settles the verdict
@@ -14,14 +16,14 @@ use collector::running::bodies_of;
 use layout::{Exponent, Generator, judge, view_of};
 
 // The two families of pairs: 2, "w_j x_i against x_j^(p-1) x_i x_j w_ij", and 3, "x_i x_j w_ij x_i^(p-1) against x_j w_i".
-#[derive(Drop)]
+#[derive(Clone, Copy)]
 pub enum Family {
     Upper,
     Lower,
 }
 
 // An overlap with its generators, of family 1, 2 or 3, and 4.
-#[derive(Drop)]
+#[derive(Clone, Copy)]
 pub enum Overlap {
     Triple(Generator, Generator, Generator),
     Pair(Family, Generator, Generator),
@@ -29,7 +31,7 @@ pub enum Overlap {
 }
 
 // What the check says: refused with 1 to 6, which have no overlap, or stopped with 9 or 10 at an overlap.
-#[derive(Drop)]
+#[derive(Clone, Copy)]
 pub enum Verdict {
     Pass,
     Differs(Overlap),
@@ -38,7 +40,7 @@ pub enum Verdict {
 }
 
 // The verdict and beside it the two vectors: 0 past n, and 0 unless it differs.
-#[derive(Drop)]
+#[derive(Clone, Copy)]
 pub struct Checked {
     pub verdict: Verdict,
     pub left: [u8; 40],
@@ -46,7 +48,7 @@ pub struct Checked {
 }
 
 // What judging one overlap says: its sides agree, or differ, or one of them is refused with 9 or 10.
-#[derive(Drop)]
+#[derive(Clone, Copy)]
 pub enum Judged {
     Agree,
     Differ,
@@ -54,11 +56,11 @@ pub enum Judged {
 }
 
 // A power in a side; with the exponent 0 there is none.
-#[derive(Drop)]
+#[derive(Clone, Copy)]
 pub struct Part(pub Generator, pub Exponent);
 
 // A side of an overlap, first part on top: up to three powers, the word w_ij (w_i for i = j), and up to one power.
-#[derive(Drop)]
+#[derive(Clone, Copy)]
 pub struct Side {
     pub first: Part,
     pub second: Part,

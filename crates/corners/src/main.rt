@@ -5,6 +5,8 @@
 //
 // A line of `calls` has seven fields: label, call, file of the presentation, vector, what is read beside it, budget, numbers in the
 // workspace. A call that takes less has empty ones.
+#![tactic(auto)]
+
 mod report; // printing what came back
 mod work; // the workspace before and after a call
 

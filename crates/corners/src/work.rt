@@ -5,7 +5,7 @@
 const SOIL: u16 = 43981;
 
 // What a workspace was found to hold.
-#[derive(Drop)]
+#[derive(Clone, Copy)]
 pub enum State {
     Nothing,
     Zero,

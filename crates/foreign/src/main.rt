@@ -1,6 +1,8 @@
 // Groups that GAP 4.12 computed: the program's line for each presentation, and products and inverses by the collector. The file
 // `calls` asks for them, one to a line; each line is printed with what came back. What must be printed, the file `stdout`, is made by
 // tools/foreign_tables.py from tables of GAP and of exact matrices: nothing in it was computed by this collector.
+#![tactic(auto)]
+
 use collector::{inverse, product};
 use io::{print_decimal, write_all};
 use pcp_run::print_line;

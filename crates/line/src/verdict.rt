@@ -11,7 +11,7 @@ use layout::{Exponent, Generator};
 use text::{put_byte, put_number, put_numbers, put_three, put_word};
 
 // An overlap as the line names it: its family and three generators, 0 for one that it does not have.
-#[derive(Drop)]
+#[derive(Clone, Copy)]
 struct Told {
     family: u8,
     a: Generator,

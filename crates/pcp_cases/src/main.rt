@@ -1,6 +1,8 @@
 // Prints the line of each stored file: document 01's Q and Z, a presentation for each family in which only that family
 // differs (Z for the fourth), no byte at all, wrong numbers of bytes and the largest right one, and two files that can't be read, a
 // name that no file has and a folder.
+#![tactic(auto)]
+
 use pcp_run::print_line;
 
 fn main() {

@@ -1,5 +1,7 @@
 // The program's reading and writing: a file's bytes in, one line out. What the line says is proved of `answer::program_line`; what
 // is read and written no contract can say, so each function here is small and does one thing.
+#![tactic(auto)]
+
 ghost use Rattle.std.specs.Prelude.{◌+◌, ◌≤◌, length};
 
 use libc::STDOUT_FILENO;

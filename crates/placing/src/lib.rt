@@ -4,6 +4,8 @@
 // above it become when it moves past them, and step 3 raises its own entry. The replacements are counted first, and BUDGET and ROOM are
 // judged, in this order, between steps 2 and 3. Slots only grow after step 1, so the slots after the placing exceed the room exactly if some
 // slot on the way does not fit, and a refusal ends the call, so nothing needs undoing.
+#![tactic(auto)]
+
 pub mod entries; // step 2 for one entry, and for all
 pub mod vectors; // sums, raising and setting down
 
@@ -24,7 +26,7 @@ pub const ROOM: u8 = 10;
 
 // What a placing comes to: 0, or the number of its refusal; the slots after it; its replacements, the exchanges and the power uses
 // apart.
-#[derive(Drop)]
+#[derive(Clone, Copy)]
 pub struct Placement {
     pub number: u8,
     pub depth: usize,

@@ -5,6 +5,8 @@
 // known from its value. Each call over it takes the record apart and calls the function on plain parameters on its numbers: that
 // one judges the numbers afresh, and the record's number, p and n are read by no call. A record that was put together by hand, with
 // another p or n, changes nothing.
+#![tactic(auto)]
+
 mod opening; // the record's fields, from the lent numbers and the number that they got
 
 ghost use Rattle.std.specs.Prelude.{◌≡◌, ◌/◌, length};
@@ -19,7 +21,7 @@ use consistency::Checked;
 use layout::{Exponent, Generator, judge};
 use opening::{standing, view_in};
 
-#[derive(Drop)]
+#[derive(Clone, Copy)]
 pub struct Presentation<'a> {
     // The number that opening gave: 0 if the numbers are accepted.
     pub number: u8,

@@ -9,6 +9,8 @@
 // It is a witness and makes no promise on what it computes. Proved are that it is safe on any
 // numbers and any letters, that it ends, that the lengths and counts it answers are within their
 // bounds, and that a word it calls normal is normal.
+#![tactic(auto)]
+
 mod leftmost;
 mod letters;
 mod relation;
@@ -23,7 +25,7 @@ use relation::{wide, word_of};
 // State 0: the word is normal. 1: it is not, and the limit is reached. 2: a word did not fit into
 // the lent letters. 3: the numbers or the letters make no sense. After 2 and 3 the letters say
 // nothing.
-#[derive(Drop)]
+#[derive(Clone, Copy)]
 pub struct Rewritten {
     pub state: u8,
     pub len: usize,
@@ -31,14 +33,14 @@ pub struct Rewritten {
 }
 
 // Letters that became more. State 0: done, and there are this many now. 2: there was no room.
-#[derive(Drop)]
+#[derive(Clone, Copy)]
 pub struct Grown {
     pub state: u8,
     pub len: usize,
 }
 
 // One replacement. State 0: made. 2 and 3: as in `Rewritten`.
-#[derive(Drop)]
+#[derive(Clone, Copy)]
 struct Step {
     state: u8,
     len: usize,

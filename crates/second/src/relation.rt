@@ -7,7 +7,7 @@ ghost use Rattle.std.specs.Prelude.{◌≡◌, ◌+◌, ◌*◌, ◌≤◌, ◌<
 const MOST: usize = 820;
 
 // The pairs of a word, from the number with index `start` on.
-#[derive(Drop)]
+#[derive(Clone, Copy)]
 pub struct Stretch {
     pub found: bool,
     pub start: usize,
@@ -15,14 +15,14 @@ pub struct Stretch {
 }
 
 // The relation of x_i^p where i = j, of x_j x_i where i < j.
-#[derive(Drop)]
+#[derive(Clone, Copy)]
 struct Name {
     i: usize,
     j: usize,
 }
 
 // What the walk passed: relations, and pairs of their words.
-#[derive(Drop)]
+#[derive(Clone, Copy)]
 struct Passed {
     relations: usize,
     pairs: usize,

@@ -13,6 +13,8 @@
 // pairs of relation words and 4,096 of input. A string has the exponent 1, so that a power of a whole word has its place.
 //
 // A string is read where it stands: `bodies` is the part of the presentation from its first body on, `word` the input word.
+#![tactic(auto)]
+
 ghost use Rattle.std.specs.Prelude.{◌≡◌, ◌+◌, ◌*◌, ◌-◌, ◌/◌, ◌≤◌, ◌<◌, length, get_or, replicate};
 ghost use Rattle.slots.specs.Slots.{slot_at, stack, stored, Sound, Pushed, Brought, lessened, power_of, remaining_of};
 ghost use Rattle.slots.specs.Pieces.{pieces, leading};
@@ -26,7 +28,7 @@ const RELATION: u16 = 41;
 const INPUT: u16 = 20000;
 
 // A slot: a power, or the unread rest of a relation word or of the input word, from the pair number `start` on.
-#[derive(Drop)]
+#[derive(Clone, Copy)]
 pub enum Slot {
     Power(Generator, Exponent),
     Relation { start: u16, pairs: u16 },

@@ -1,5 +1,7 @@
 // Tables of text, as the witness programs read their cases: a line ends with a line feed, its fields are separated by tabs, and the
 // numbers in a field by single spaces. Reading asks nothing of a table: what is missing is empty, and what is no digit is passed over.
+#![tactic(auto)]
+
 ghost use Rattle.std.specs.Prelude.{◌≤◌, length};
 ghost use Rattle.io.specs.Counts.{IsPrefixLen};
 

@@ -47,6 +47,8 @@ module _ (P : Presentation) where
   -- A normal vector's word is over its generators.
   pub spell-over : (k m : ℕ) (v : Vector) → k + m ≡ suc P.rank → Normal P k m v → Over P m (spell m v)
   spell-over zero m [] f p = tt
+  spell-over zero m (a ∷ v) f p = elim p [ ]
+  spell-over (suc k) m [] f p = elim p [ ]
   spell-over (suc k) m (a ∷ v) f p =
       over-append m (replicate a m) (spell (suc m) v)
       (over-block m a m (omega arith) (omega arith))
@@ -55,6 +57,8 @@ module _ (P : Presentation) where
   -- Normal vectors have k entries.
   pub normal-length : (k m : ℕ) (v : Vector) → Normal P k m v → length v ≡ k
   normal-length zero m [] p = refl
+  normal-length zero m (a ∷ v) p = elim p [ ]
+  normal-length (suc k) m [] p = elim p [ ]
   normal-length (suc k) m (a ∷ v) p = ap suc (normal-length k (suc m) v p.1)
 
   pub spell-identity : (k m : ℕ) → spell m (identity k) ≡ []

@@ -1,5 +1,7 @@
 // What the witness programs (trials, foreign, corners) have in common: arithmetic, reading and storing that ask nothing of their
 // callers, and printing. The programs are proved safe and no more, so the functions here promise what that needs and no more.
+#![tactic(auto)]
+
 pub mod arith; // sums that stay in range, and reading and storing that stay in bounds
 pub mod print; // numbers and vectors on standard output
 

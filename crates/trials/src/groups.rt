@@ -6,7 +6,7 @@ use total::{
 };
 
 // How much of a presentation is written: entries of the contents, pairs of the bodies, digits read.
-#[derive(Drop)]
+#[derive(Clone, Copy)]
 struct Written {
     entries: usize,
     pairs: usize,
@@ -14,7 +14,7 @@ struct Written {
 }
 
 // What was drawn, and the generator's state after it.
-#[derive(Drop)]
+#[derive(Clone, Copy)]
 pub struct Drawn {
     pub state: u64,
     pub len: usize,

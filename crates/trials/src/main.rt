@@ -4,6 +4,8 @@
 // disagreement is printed as a case; the last line has the counts.
 //
 // The program itself is proved safe and no more, so its arithmetic is total (the crate total) and its functions small.
+#![tactic(auto)]
+
 mod groups; // making presentations, vectors and words
 mod report; // printing
 mod sides; // one call of either collector, compared
@@ -14,7 +16,7 @@ use sides::{collections_agree, inverses_agree, products_agree};
 use total::{more, part, pick, power, print_entries, print_numbers, step, stretch};
 
 // What was run so far, and the generator's state.
-#[derive(Drop)]
+#[derive(Clone, Copy)]
 pub struct Tally {
     pub state: u64,
     pub presentations: u64,

@@ -13,7 +13,7 @@ const WORK: usize = 600;
 
 const LETTERS: usize = 512;
 
-#[derive(Drop)]
+#[derive(Clone, Copy)]
 pub struct Held {
     pub agree: bool,
     pub count: u32,
@@ -21,7 +21,7 @@ pub struct Held {
 }
 
 // What either collector answers: a normal word was found, with the count.
-#[derive(Drop)]
+#[derive(Clone, Copy)]
 struct Answered {
     found: bool,
     count: u32,

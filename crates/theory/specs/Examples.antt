@@ -1,7 +1,7 @@
 -- The presentations D, Q, H and Z of document 01's examples, over which the proofs compute.
 --
 -- Main definitions: `named`, `D`, `Q`, `H`, `Z`.
-use Rattle.std.specs.Prelude.{List, [], ◌∷◌, ◌++◌, Bool, true, false, ◌&&◌, ℕ, zero, suc, ◌-◌, eqb}
+use Rattle.std.specs.Prelude.{List, [], ◌∷◌, true, false, ◌&&◌, ℕ, zero, suc, ◌-◌, eqb}
 use Rattle.theory.specs.Presentation.{Presentation, Word, Vector, p_group}
 
 -- A relation's word that is not empty: w_ij, or w_i where j is i.

@@ -1,7 +1,7 @@
 -- Joined words.
 --
 -- Main definitions: `Relation`, `Link`, `Joined`.
-use Rattle.std.specs.Prelude.{List, [], ◌∷◌, ◌++◌, ℕ, suc, ◌≤◌, ◌<◌, replicate}
+use Rattle.std.specs.Prelude.{[], ◌∷◌, ◌++◌, ℕ, ◌≤◌, ◌<◌, replicate}
 use Rattle.theory.specs.Presentation.{Presentation, Word, power_word}
 
 -- The relations among the generators from m on, left side and right side; for the whole group m is 1.

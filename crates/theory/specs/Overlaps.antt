@@ -1,8 +1,8 @@
 -- The overlaps of document 01's consistency check, in their order, and what consistent means.
 --
 -- Main definitions: `Overlap`, `Among`, `left_side`, `right_side`, `overlapped`, `Consistent`, `overlaps`.
-use Rattle.std.specs.Prelude.{◌≡◌, List, [], ◌∷◌, ◌++◌, ℕ, zero, suc, ◌+◌, ◌-◌, ◌≤◌, ◌<◌, replicate}
-use Rattle.theory.specs.Presentation.{Presentation, Word, Vector, power_word, identity}
+use Rattle.std.specs.Prelude.{◌≡◌, List, [], ◌∷◌, ◌++◌, ℕ, zero, suc, ◌-◌, ◌≤◌, ◌<◌, replicate}
+use Rattle.theory.specs.Presentation.{Presentation, Word, power_word, identity}
 use Rattle.theory.specs.Placing.{collect}
 
 -- The four families: the overlapped words are x_k x_j x_i, x_j^e x_i, x_j x_i^e and x_i^(e + 1).

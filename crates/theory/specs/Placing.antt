@@ -4,7 +4,7 @@
 -- lent workspace, above this theory.
 --
 -- Main definitions: `place`, `Collects`, `collect`, `count`, `invert`.
-use mathlib.Core.List.{List, [], ◌∷◌, ◌++◌, tail}
+use mathlib.Core.List.{[], ◌∷◌, ◌++◌, tail}
 use Rattle.std.specs.Prelude.{Bool, true, false, ℕ, zero, suc, ◌+◌, ◌-◌, length, replicate, eqb}
 use Rattle.theory.specs.Presentation.{Presentation, Word, Vector, spell, identity}
 

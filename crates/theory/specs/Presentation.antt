@@ -5,7 +5,7 @@
 -- every exponent is p and v_ij = x_j w_ij (`p_group`, below).
 --
 -- Main definitions: `Presentation`, `spell`, `Normal`, `Over`, `Valid`, `p_group`.
-use Rattle.std.specs.Prelude.{◌≡◌, List, [], ◌∷◌, ◌++◌, Bool, true, false, ◌&&◌, ℕ, zero, suc, ◌+◌, ◌-◌, ◌≤◌, ◌<◌, replicate, eqb}
+use Rattle.std.specs.Prelude.{◌≡◌, List, [], ◌∷◌, ◌++◌, ℕ, zero, suc, ◌+◌, ◌≤◌, ◌<◌, replicate}
 
 -- "generators x_1 .. x_n": a letter is the number of a generator, and a word is a list of letters.
 abbrev pub Word : Type 0

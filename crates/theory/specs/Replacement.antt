@@ -3,7 +3,7 @@
 -- A non-normal subword, what replaces it, the leftmost one, and c leftmost replacements: what collecting is held against.
 --
 -- Main definitions: `replace_first`, `leftmost`, `steps`.
-use Rattle.std.specs.Prelude.{List, [], ◌∷◌, ◌++◌, Bool, true, false, ℕ, zero, suc, eqb, ltb}
+use Rattle.std.specs.Prelude.{[], ◌∷◌, ◌++◌, true, false, ℕ, zero, suc, eqb, ltb}
 use Rattle.std.proofs.Math.Option.{Option, none, some}
 use Rattle.theory.specs.Presentation.{Presentation, Word, power_word}
 

@@ -20,23 +20,25 @@ HERE = os.path.dirname(os.path.abspath(__file__))
 CRATES = '# pcp: low none\nlow:\nmiddle: low io # other\nother: low\npcp: middle low os\n'
 
 BEGUN = 'check-group: nothing is trusted, so the program is proved first: 3 crates, some minutes if none of them is proved yet\n'
-PROVED = ('check-group: proved low, 1 of 3 (unchanged since it was last proved)\n'
-          'check-group: proved middle, 2 of 3 (21 s)\n'
-          'check-group: proved pcp, 3 of 3 (1 s)\n')
+PROVED = ('check-group: proved low, 1 of 3\n'
+          'check-group: proved middle, 2 of 3\n'
+          'check-group: proved pcp, 3 of 3\n')
 
-BUILD = '''mkdir -p target/bin
-printf '#!/bin/sh\\n[ "$(cat group.pcp)" = bytes ] && echo "pass 2 3 10"\\n' >target/bin/pcp
-chmod +x target/bin/pcp
+# rt runs in the program's folder, and leaves the program in out/.
+BUILD = '''mkdir -p out
+printf '#!/bin/sh\\n[ "$(cat group.pcp)" = bytes ] && echo "pass 2 3 10"\\n' >out/pcp
+chmod +x out/pcp
 '''
-LOW = 'echo "fn low::least: proved"; echo "rt: low proved (unchanged since it was last proved)"\n'
-REST = 'echo "rt: middle proved (21 s)"; echo "rt: pcp proved (1 s)"; echo "rt: pcp ran, and wrote what its file has (0 s)"\n'
-GOOD = '[ "$*" = "check pcp" ] || exit 9\n' + LOW + REST + BUILD + 'echo "rt: ok, 3 crates proved"\n'
+LOW = 'echo "rt: chose --jobs 2 for low"; echo "fn low::least: proved"; echo "logic=proved functions=1 sum=09"\n'
+REST = ('echo "rt: chose --jobs 4 for middle"; echo "logic=proved functions=2 sum=09"; echo "rt: chose --jobs 2 for pcp"; '
+        'echo "logic=proved functions=1 target=x86"\n')
+GOOD = '[ "$*" = run ] && [ "$(basename "$PWD")" = pcp ] || exit 9\n' + LOW + REST + BUILD + 'echo short\n'
 # The crate that fails is not told as proved, and its lines are the end of the log.
-BAD = LOW + 'for k in $(seq 30); do echo "goal $k"; done\necho "rt: middle NOT PROVED (exit 1, 3 s)"\necho "rt: FAILED: middle" >&2\nexit 1\n'
+BAD = LOW + 'echo "rt: chose --jobs 4 for middle"\nfor k in $(seq 30); do echo "goal $k"; done\necho "logic=not-proved"\necho "rt: FAILED: middle" >&2\nexit 1\n'
 # A program whose run fails is built all the same, and must not be run by check-group.
-RUN_FAILED = LOW + BUILD + 'echo "rt: pcp proved, and its run FAILED (0 s)"\nexit 1\n'
+RUN_FAILED = LOW + BUILD + 'echo "rt: the run failed"\nexit 1\n'
 # Goes on only when the test has seen the first crate, or after ten seconds, so that a failing test ends too.
-WAITING = LOW + 'k=0; while [ ! -f seen ] && [ $k -lt 100 ]; do sleep 0.1; k=$((k + 1)); done\n[ -f seen ] || exit 1\n' + REST + BUILD
+WAITING = LOW + 'k=0; while [ ! -f ../../seen ] && [ $k -lt 100 ]; do sleep 0.1; k=$((k + 1)); done\n[ -f ../../seen ] || exit 1\n' + REST + BUILD
 
 
 def fail(case, what):
@@ -50,7 +52,7 @@ class Case:
     def __init__(self, name, rt):
         self.name = name
         self.root = tempfile.mkdtemp()
-        for folder in ('bin', 'tmp', 'repo/crates/low/src'):
+        for folder in ('bin', 'tmp', 'repo/crates/low/src', 'repo/crates/pcp/src'):
             os.makedirs(os.path.join(self.root, folder))
         self.repo = os.path.join(self.root, 'repo')
         shutil.copy(os.path.join(HERE, '..', 'check-group'), self.repo)
@@ -134,9 +136,9 @@ def main():
     first = BEGUN + PROVED.split('\n')[0] + '\n'
     goals = ''.join('goal %d\n' % k for k in range(13, 31))
     proves_once()
-    refuses('a crate is refused', BAD, first + goals + 'rt: middle NOT PROVED (exit 1, 3 s)\nrt: FAILED: middle\n')
-    refuses('the run fails', RUN_FAILED, first + 'fn low::least: proved\n' + 'rt: low proved (unchanged since it was last proved)\n'
-            + 'rt: pcp proved, and its run FAILED (0 s)\n')
+    refuses('a crate is refused', BAD, first + goals + 'logic=not-proved\nrt: FAILED: middle\n')
+    refuses('the run fails', RUN_FAILED, first + 'rt: chose --jobs 2 for low\nfn low::least: proved\n'
+            + 'logic=proved functions=1 sum=09\nrt: the run failed\n')
     refuses('rt is killed', BUILD + 'kill -9 $$\n')
     refuses('there is no rt', None)
     tells_at_once()

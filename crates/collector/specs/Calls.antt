@@ -1,12 +1,12 @@
 -- The calls: what each answers, and what it leaves in every lent slice.
 --
 -- Main definitions: `Left`, `collect_call`, `product_call`, `inverse_call`, `depth_call`.
-use Rattle.std.specs.Prelude.{◌≡◌, List, [], ◌∷◌, Bool, true, false, ℕ, zero, suc, ◌+◌, ◌-◌, ◌/◌, length, get_or, replicate, eqb, ltb}
+use Rattle.std.specs.Prelude.{◌≡◌, List, [], ◌∷◌, Bool, true, false, ℕ, zero, suc, ◌-◌, ◌/◌, length, get_or, replicate, eqb}
 use Rattle.theory.specs.Presentation.{Vector}
 use Rattle.theory.specs.Placing.{complement}
 use Rattle.layout.specs.Header.{rank_of, exponent_of}
 use Rattle.layout.specs.Judged.{judged}
-use Rattle.slots.specs.Pieces.{Piece, power}
+use Rattle.slots.specs.Pieces.{power}
 use Rattle.collector.specs.declared.Answer.{Answer}
 use Rattle.collector.specs.declared.DepthAnswer.{DepthAnswer}
 use Rattle.collector.specs.Run.{Outcome, done, refused, begun}

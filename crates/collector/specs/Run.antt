@@ -1,11 +1,11 @@
 -- The run: placing after placing, until no slot is left or one is refused.
 --
 -- Main definitions: `Outcome`, `Runs` (the rules), `outcome` (the same as a function), `begun`.
-use Rattle.std.specs.Prelude.{◌≡◌, List, [], ◌∷◌, Bool, true, false, ℕ, zero, suc, ◌+◌, ◌-◌, ◌*◌, length, ltb}
+use Rattle.std.specs.Prelude.{◌≡◌, List, [], ◌∷◌, true, false, ℕ, zero, suc, ◌+◌, ◌-◌, ◌*◌, length, ltb}
 use Rattle.theory.specs.Presentation.{Vector}
 use Rattle.layout.specs.Header.{prime_of, rank_of}
 use Rattle.slots.specs.Pieces.{Piece, letters}
-use Rattle.placing.specs.Step.{Step, refuse, lead, step}
+use Rattle.placing.specs.Step.{refuse, lead, step}
 
 -- What a run comes to: DONE with the vector and the count, or the number 9 or 10 with "the count before the refused placing".
 pub data Outcome : Type 0 where

@@ -1,7 +1,7 @@
 -- Starting slots as the workspace holds them.
 --
 -- Main definitions: `word_start`, `power_start`, `Put`, `Held`.
-use Rattle.std.specs.Prelude.{◌≡◌, List, [], ◌∷◌, ℕ, zero, suc, ◌+◌, ◌*◌, ◌/◌, ◌≤◌, ◌<◌, length}
+use Rattle.std.specs.Prelude.{◌≡◌, List, [], ◌∷◌, ℕ, zero, suc, ◌+◌, ◌*◌, ◌/◌, ◌≤◌, length}
 use Rattle.theory.specs.Presentation.{Vector}
 use Rattle.slots.specs.declared.Slot.{Slot}
 use Rattle.slots.specs.declared.Slot.TheVariants.{Input}

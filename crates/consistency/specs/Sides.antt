@@ -4,7 +4,7 @@
 -- Main definitions: `left_pieces`, `right_pieces`; `side_pieces` and `SideRight`, the same for a side as the code has it.
 use Rattle.std.specs.Prelude.{List, [], ◌∷◌, ℕ, zero, suc, ◌-◌, ◌≤◌}
 use Rattle.theory.specs.Overlaps.{Overlap, triple, upper, lower, single}
-use Rattle.layout.specs.Header.{rank_of, exponent_of}
+use Rattle.layout.specs.Header.{exponent_of}
 use Rattle.layout.specs.Contents.{stretch_of}
 use Rattle.slots.specs.Pieces.{Piece, power, unread}
 use Rattle.consistency.specs.declared.Part.{Part}

@@ -1,7 +1,7 @@
 -- The demands, as statements about what the calls leave.
 --
 -- Main definitions: `Collected`, `Inverted`, `Unchanged`.
-use Rattle.std.specs.Prelude.{◌≡◌, List, [], ◌++◌, ℕ, length, replicate}
+use Rattle.std.specs.Prelude.{◌≡◌, List, [], ◌++◌, ℕ}
 use Rattle.std.proofs.Math.Option.{none, some}
 use Rattle.theory.specs.Presentation.{Word, Vector, spell, identity, Normal}
 use Rattle.theory.specs.Replacement.{leftmost, steps}

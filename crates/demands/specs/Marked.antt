@@ -5,7 +5,6 @@ use Rattle.std.specs.Prelude.{◌≡◌, List, [], ◌∷◌, ℕ, ◌*◌, repl
 use Rattle.theory.specs.Presentation.{Vector}
 use Rattle.layout.specs.Header.{rank_of}
 use Rattle.collector.specs.Calls.{Left, collect_call, inverse_call}
-use Rattle.consistency.specs.declared.Overlap.{Overlap}
 use Rattle.consistency.specs.declared.Overlap.TheVariants.{Single}
 use Rattle.consistency.specs.declared.Verdict.{Verdict}
 use Rattle.consistency.specs.declared.Verdict.TheVariants.{Differs}

@@ -6,7 +6,7 @@ use mathlib.Core.List.{List}
 use mathlib.Core.Bool.{Bool, true, false, ◌&&◌}
 use Prim.Native.Nat.{ℕ, ◌<◌, ◌≤◌}
 use native.Mathlib.Omega.{arith}
-use borrow.Author.Tests.{leb-true, ltb-false, eqb-true, le-ltb, lt-ltb}
+use borrow.Author.Tests.{leb-true, ltb-false, eqb-true}
 use lib.ListN.{length}
 use lib.Dec.{leb, ltb}
 use Rattle.layout.specs.declared.View.{View}
@@ -73,11 +73,3 @@ pub found : (nums : List ℕ) (view : View) (i j r : ℕ) → judged nums ≡ 0 
 found nums view i j r h s b e =
     let q : r ≡ place_of (rank_of nums) i j = e ∙ ap (λ (n : ℕ). place_of n i j) s.rank in
     record { place = q; listed = rw q (place-fits (rank_of nums) i j (accepted nums h).measured.most b.0 b.1 b.2) }
-
--- Without the contents' numbers they are wrong.
-pub contents-short : (nums : List ℕ) → length nums < bodies_at nums → contents_right nums ≡ false
-contents-short nums h = rw (lt-ltb (length nums) (bodies_at nums) h, contents_right)
-
--- With the contents' numbers there, only the starts are left to judge.
-pub contents-start : (nums : List ℕ) → bodies_at nums ≤ length nums → contents_right nums ≡ starts_right nums
-contents-start nums h = rw (le-ltb (length nums) (bodies_at nums) h, contents_right)

@@ -1,7 +1,7 @@
 -- The test `prime_to_251` holds at exactly the primes from 2 to 251, and trial division up to the root decides it.
 --
 -- Main results: `enough` (for the loop), `prime-passes`, `passes-prime`.
-use mathlib.Core.Path.{◌≡◌, refl, sym, ap, ◌∙◌, subst}
+use mathlib.Core.Path.{◌≡◌, refl, ap, ◌∙◌, subst}
 use mathlib.Core.Bool.{Bool, true, false, not}
 use mathlib.Core.Logic.{◌⊎◌, inl, inr}
 use Prim.Native.Nat.{ℕ, zero, suc, ◌+◌, ◌-◌, ◌*◌, ◌/◌, ◌%◌, ◌<◌, ◌≤◌}
@@ -11,7 +11,7 @@ use native.Mathlib.Decide.{dec_lt}
 use borrow.Author.Tests.{eqb-false, ne_eqb, eq-eqb, not-true, le-leb, lt-leb, leb-true}
 use lib.Dec.{leb, eqb}
 use Rattle.layout.specs.Prime.{Prime, undivided, prime_to_251}
-use Rattle.layout.proofs.Every.{at, fail, pass}
+use Rattle.layout.proofs.Every.{at, fail}
 
 back : (d : ℕ) → 2 ≤ d → d ≡ d - 2 + 2
 back d l = omega arith
@@ -64,6 +64,16 @@ pub divided : (p d : ℕ) → 2 ≤ d → d < p → p % d ≡ 0 → undivided p 
 divided p d l lt e =
     fail (λ d. not (eqb (p % (d + 2)) 0)) (p - 2) (d - 2) (omega arith)
     (ap not (eq-eqb (p % (d - 2 + 2)) 0 (subst (λ (x : ℕ). p % x ≡ 0) (back d l) e)))
+
+-- .. of the test too, in range or not.
+pub divided-fails : (p d : ℕ) → 2 ≤ d → d < p → p % d ≡ 0 → prime_to_251 p ≡ false
+divided-fails p d l lt e = go (leb 2 p) (leb p 251) (divided p d l lt e)
+  where
+    go : (a b : Bool) → undivided p (p - 2) ≡ false
+        → elim a [ true ↦ elim b [ true ↦ undivided p (p - 2) | false ↦ false ] | false ↦ false ] ≡ false
+    go false b h = refl
+    go true false h = refl
+    go true true h = h
 
 -- The test by its cases.
 pub too_small : (p : ℕ) → p < 2 → prime_to_251 p ≡ false
@@ -124,24 +134,6 @@ prime-passes p h m = in-range p h.above_one m ∙ undivided-of p (p - 2) none
         pick (inl a) = omega arith
         pick (inr a) = omega (arith, h.above_one)
 
--- The steps of the loop: d is at most 15 while its square is at most p, and below p; a d that divides not lets it go on.
-pub root-small : (p d : ℕ) → p ≤ 251 → d * d ≤ p → d ≤ 15
-root-small p d h s = go (dec_lt 15 d)
-  where
-    go : Dec (15 < d) → d ≤ 15
-    go (yes l) = let z : 16 * 16 ≤ d * d = mul-le-mul l l in absurd (omega arith)
-    go (no m) = omega arith
-
-pub square-fits : (d : ℕ) → d ≤ 16 → d * d ≤ 256
-square-fits d h = mul-le-mul h h
-
+-- A step of the loop: d is below p while its square is at most p.
 pub smaller : (p d : ℕ) → 2 ≤ d → d * d ≤ p → d < p
 smaller p d l s = omega (arith, mul-le-mul_left d l)
-
-pub further : (p d : ℕ) → 2 ≤ d → undivided p (d - 2) ≡ true → (p % d ≡ 0 → ⊥) → undivided p (d + 1 - 2) ≡ true
-further p d l h m =
-    rw (next d l)
-    (pass (λ d. not (eqb (p % (d + 2)) 0)) (d - 2) h (ap not (ne_eqb (p % (d - 2 + 2)) 0 (λ e. m (subst (λ (x : ℕ). p % x ≡ 0) (sym (back d l)) e)))))
-  where
-    next : (d : ℕ) → 2 ≤ d → d + 1 - 2 ≡ d - 2 + 1
-    next d l = omega arith

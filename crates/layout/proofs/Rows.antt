@@ -6,7 +6,6 @@ use mathlib.Core.Path.{◌≡◌, refl}
 use mathlib.Core.Bool.{Bool, true, false}
 use Prim.Native.Nat.{ℕ, zero, suc, ◌+◌, ◌-◌, ◌*◌, ◌<◌, ◌≤◌}
 use native.Mathlib.Omega.{arith}
-use native.Mathlib.Numerals.{add-one}
 use native.Mathlib.Decide.{dec_le}
 use native.Mathlib.Nat.{mul-le-mul}
 use borrow.Author.Tests.{eqb-true, leb-true, eqb-false}
@@ -34,9 +33,6 @@ entries-some n l =
     let m : 2 ≤ n + 1 = omega arith in
     let z : 1 * 2 ≤ n * (n + 1) = mul-le-mul l m in
     omega arith
-
-pub next_row : (n i : ℕ) → row_at n (i + 1) ≡ row_at n i + (n - i)
-next_row n i = rw (add-one i)
 
 -- A row ends where the next begins, and no later row begins before that.
 row-end : (n k i : ℕ) → i < k → row_at n i + (n - i) ≤ row_at n k
@@ -96,11 +92,3 @@ place-fits n i j h l m k = go (located n i j l m k)
   where
     go : Located n i j → place_of n i j < entries n
     go s = rw s.place (in_row n s.row s.column h s.first s.within)
-
--- Twice the number of the entries, at any 16-bit rank.
-pub product-fits : (n : ℕ) → n < 65536 → n * (n + 1) < 4294967296
-product-fits n h =
-    let a : n ≤ 65535 = omega arith in
-    let b : n + 1 ≤ 65536 = omega arith in
-    let z : n * (n + 1) ≤ 65535 * 65536 = mul-le-mul a b in
-    omega arith

@@ -6,24 +6,17 @@ use mathlib.Core.List.{List}
 use mathlib.Core.Bool.{true, false}
 use Prim.Native.Nat.{ℕ, zero, suc, ◌+◌, ◌-◌, ◌*◌, ◌<◌, ◌≤◌}
 use native.Mathlib.Omega.{arith}
-use native.Mathlib.Numerals.{add-one}
 use native.Mathlib.Decide.{dec_le}
-use borrow.Author.Tests.{eqb-true, eq-eqb, ne_eqb}
-use lib.ListN.{length, take, drop, length-drop}
+use borrow.Author.Tests.{eqb-true, ne_eqb}
+use lib.ListN.{length, length-drop}
 use lib.Seq.{length-take-le}
-use Rattle.layout.specs.declared.View.{View}
 use Rattle.layout.specs.declared.Span.{Span}
-use Rattle.layout.specs.Every.{every}
-use Rattle.layout.specs.Header.{Seen, bodies_at, rank_of, entries}
+use Rattle.layout.specs.Header.{bodies_at, rank_of, entries}
 use Rattle.layout.specs.Contents.{Measured, Spans, length_due, start_of, length_of, pairs_before, start_right, starts_right, body_at, stretch_at}
 use Rattle.layout.proofs.Rows.{entries-some}
-use Rattle.layout.proofs.Every.{at, pass, fail}
+use Rattle.layout.proofs.Every.{at, fail}
 
--- The loop over the starts: one more right start, and one that is wrong.
-pub start-passes : (nums : List ℕ) (e : ℕ) → every (start_right nums) e ≡ true → start_of nums e ≡ pairs_before nums e
-    → every (start_right nums) (e + 1) ≡ true
-start-passes nums e h s = pass (start_right nums) e h (eq-eqb _ _ s)
-
+-- The loop over the starts: one that is wrong settles it.
 pub start-fails : (nums : List ℕ) (e : ℕ) → e < entries (rank_of nums)
     → (start_of nums e ≡ pairs_before nums e → ⊥) → starts_right nums ≡ false
 start-fails nums e l s = fail (start_right nums) (entries (rank_of nums)) e l (ne_eqb _ _ s)
@@ -31,13 +24,6 @@ start-fails nums e l s = fail (start_right nums) (entries (rank_of nums)) e l (n
 -- "Each start equals the sum of all earlier lengths."
 pub start_is : (nums : List ℕ) (e : ℕ) → starts_right nums ≡ true → e < entries (rank_of nums) → start_of nums e ≡ pairs_before nums e
 start_is nums e h l = eqb-true _ _ (at (start_right nums) (entries (rank_of nums)) e h l)
-
-pub one_more : (nums : List ℕ) (e : ℕ) → pairs_before nums (e + 1) ≡ pairs_before nums e + length_of nums e
-one_more nums e = rw (add-one e)
-
--- R, by a view of the numbers.
-pub entries-are : {nums : List ℕ} {view : View} {r : ℕ} → Seen nums view → r ≡ entries view.rank.0 → r ≡ entries (rank_of nums)
-entries-are s e = e ∙ ap entries s.rank
 
 -- All the pairs, from the last entry alone.
 pub last_sum : (nums : List ℕ) → starts_right nums ≡ true → 1 ≤ entries (rank_of nums)
@@ -71,12 +57,6 @@ within nums (suc m) e h = go (dec_le m e) (λ l. within nums m e l)
         same : m ≤ e → e ≡ m
         same l = omega arith
     go (no n) r = let l : e < m = omega arith in omega (arith, r l)
-
--- The part from a to b, at the entry's start and length.
-pub part-is : (nums : List ℕ) (e a b : ℕ) → a ≡ body_at nums e → b ≡ a + 2 * length_of nums e → take (b - a) (drop a nums) ≡ stretch_at nums e
-part-is nums e a b ha hb =
-    let l : b - a ≡ 2 * length_of nums e = omega arith in
-    ap (λ (k : ℕ). take k (drop a nums)) l ∙ ap (λ (k : ℕ). take (2 * length_of nums e) (drop k nums)) ha
 
 module _ (nums : List ℕ) (e : ℕ) (m : Measured nums) (l : e < entries (rank_of nums)) where
   pub stretch-fits : body_at nums e + 2 * length_of nums e ≤ length nums

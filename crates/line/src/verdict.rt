@@ -21,7 +21,7 @@ struct Told {
 
 fn told_of(overlap: Overlap) -> Told
     ensures family_value { result.family ≡ family_of overlap }
-    ensures c_value { result.a.0 ∷ result.b.0 ∷ result.c.0 ∷ [] ≡ generators_of overlap }
+    ensures generators_value { result.a.0 ∷ result.b.0 ∷ result.c.0 ∷ [] ≡ generators_of overlap }
 {
     let none = Generator(0);
     match overlap {
@@ -82,6 +82,7 @@ fn put_vector(out: &mut [u8], at: usize, vector: [u8; 40], rank: Generator) -> u
     put_numbers(out, next, &vector[..n])
 }
 
+#[tactic(auto, using(crate::proofs::Parts::pass))]
 fn put_pass(out: &mut [u8], prime: Exponent, rank: Generator) -> usize
     requires { 2048 ≤ length out.old }
     ensures added { Added out.old 0 out.new result (pass_line prime.0 rank.0) }
@@ -92,6 +93,7 @@ fn put_pass(out: &mut [u8], prime: Exponent, rank: Generator) -> usize
     put_byte(out, end, b'\n')
 }
 
+#[tactic(auto, using(crate::proofs::Parts::differs))]
 fn put_differs(
     out: &mut [u8],
     rank: Generator,
@@ -111,6 +113,7 @@ fn put_differs(
 }
 
 // A refusal that has no overlap.
+#[tactic(auto, using(crate::proofs::Parts::refused))]
 pub fn put_refused(out: &mut [u8], number: u8) -> usize
     requires { 2048 ≤ length out.old }
     ensures added { Added out.old 0 out.new result (refused_line number) }
@@ -122,6 +125,7 @@ pub fn put_refused(out: &mut [u8], number: u8) -> usize
 }
 
 // A refusal at an overlap.
+#[tactic(auto, using(crate::proofs::Parts::stopped))]
 fn put_stopped(out: &mut [u8], number: u8, overlap: Overlap) -> usize
     requires { 2048 ≤ length out.old }
     ensures added { Added out.old 0 out.new result (stopped_line number overlap) }

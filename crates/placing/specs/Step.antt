@@ -1,7 +1,7 @@
 -- One placing, with BUDGET and ROOM.
 --
 -- Main definitions: `placing_of`, `slots_after`, `Step`, `step`.
-use Rattle.std.specs.Prelude.{List, [], ◌∷◌, Bool, true, false, ℕ, suc, ◌+◌, length, drop, ltb}
+use Rattle.std.specs.Prelude.{List, true, false, ℕ, suc, length, drop, ltb}
 use Rattle.theory.specs.Presentation.{Vector}
 use Rattle.theory.specs.Placing.{Placed, place, cost}
 use Rattle.layout.specs.Relations.{presentation}

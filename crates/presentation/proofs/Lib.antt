@@ -1,11 +1,5 @@
+-- The opened presentation: what a judged number tells of an opening, what a refused opening and no numbers answer, and that any two outcomes
+-- of a call coincide.
 pub mod Accepting
-pub mod Asking
-pub mod Beside
-pub mod Cells
 pub mod Outcomes
-pub mod Plainly
 pub mod Refusal
-pub mod Spelling
-pub mod Standing
-pub mod Straight
-pub mod Thin

@@ -5,7 +5,7 @@
 --     remade           the record with another number, p and n.        word-of-ignores, .., check-ignores      the contract at the record is the contract at any such other
 use mathlib.Core.Path.{◌≡◌, refl, sym, ◌∙◌}
 use Prim.Native.Nat.{ℕ}
-use mathlib.Core.List.{List}
+use mathlib.Core.List.{List, [], ◌∷◌}
 use seplogic.Ra.Ura.{Ura}
 use base.Logic.{SProp, ent, sep, id⊢, via, fst∗, snd∗}
 use prog.Memory.{Memory}
@@ -15,7 +15,7 @@ use contract.Lifetimes.{Lfts}
 use contract.Monad.{Fun, fact, fact_i, fact_use}
 use denote.RattleType.{Denots}
 use denote.Ref.{Bor}
-use denote.Signature.{types_at}
+use denote.Signature.{Slot, types_at}
 use denote.Triple.Clauses.{AtExit}
 use denote.Triple.Entry.{Args, Res}
 use Rattle.layout.specs.Contents.{Lies}
@@ -30,7 +30,6 @@ use Rattle.collector.specs.contracts.depth as plain-depth
 use Rattle.consistency.specs.contracts.check as plain-check
 use Rattle.presentation.specs.Opened.{Opens}
 use Rattle.presentation.specs.declared.Presentation.{Presentation}
-use Rattle.presentation.proofs.Thin.{rest_of}
 use Rattle.presentation.specs.contracts.open as opening
 use Rattle.presentation.specs.contracts.word_of as word_of
 use Rattle.presentation.specs.contracts.collect as collect
@@ -106,6 +105,11 @@ module _ {M : Type 1} {𝓤 : Ura M} (𝓛 : Logic 𝓤) (mem : Memory → SProp
   collect-opened-one κs a r s x y = facts _ _ _ leaves-one
 
 -- ---- what a call over the record says, beside what the plain one says
+-- The parameters after the first.
+abbrev pub rest_of : {n : ℕ} → List (Slot n) → List (Slot n)
+rest_of [] = []
+rest_of (s ∷ ss) = ss
+
 module _ {M : Type 1} {𝓤 : Ura M} (𝓛 : Logic 𝓤) (mem : Memory → SProp 𝓤) (run : Routine → Fun 𝓤) (d : Presentation) where
   pub word-of-as-plain : (κs : Lfts 1) (a : Denots (types_at (rest_of (word_of.signature).params) κs)) (r : Res word_of.signature κs) → (word_of.spec 𝓛 mem run κs (d, a)).ensures tt r ≡ (plain-word-of.spec 𝓛 mem run κs (d.numbers, a)).ensures tt r
   word-of-as-plain κs a r = refl

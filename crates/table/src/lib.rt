@@ -2,29 +2,57 @@
 // numbers in a field by single spaces. Reading asks nothing of a table: what is missing is empty, and what is no digit is passed over.
 #![tactic(auto)]
 
-ghost use Rattle.std.specs.Prelude.{◌≤◌, length};
+ghost use Rattle.std.specs.Prelude.{◌+◌, ◌≤◌, length};
 ghost use Rattle.io.specs.Counts.{IsPrefixLen};
 
-use io::read_full;
+use std::fs;
+use std::io::Read;
+use std::rt::Files;
 use text::numbers_of;
 use total::{entry_at, part, store_entry, store_number, stretch, sum};
 
-// Reads the file of this name, as far as there is room, and answers how many bytes came: 0 if it can't be read.
-pub fn read_file(name: &[u8], bytes: &mut [u8]) -> usize
+// Reads once into the bytes from `at` on, and answers how many came: 0 at the end, or where the read fails.
+fn read_on(file: &mut impl Read, bytes: &mut [u8], at: usize) -> usize
+    requires { at ≤ length bytes.old }
+    ensures { at + result ≤ length bytes.new }
+{
+    file.read(&mut bytes[at..]).unwrap_or(0)
+}
+
+// Reads an open file until the bytes are full, the file ends or a read fails, and answers how many bytes came.
+fn read_open(file: &mut impl Read, bytes: &mut [u8]) -> usize
     ensures { IsPrefixLen result bytes.new }
 {
-    let file = os::open_read(name);
-    let count = read_full(file, bytes);
-    libc::close(file);
-    count
+    let mut at: usize = 0;
+    while at < bytes.len() {
+        let more = read_on(file, bytes, at);
+        if more == 0 {
+            break;
+        }
+        at += more;
+    }
+    part(at, bytes)
+}
+
+// Reads the file of this name, as far as there is room, and answers how many bytes came: 0 if it can't be read.
+pub fn read_file(rt: &impl Files, name: &[u8], bytes: &mut [u8]) -> usize
+    ensures { IsPrefixLen result bytes.new }
+{
+    let Ok(path) = str::from_utf8(name) else {
+        return 0;
+    };
+    let Ok(mut file) = fs::open(rt, path) else {
+        return 0;
+    };
+    read_open(&mut file, bytes)
 }
 
 // Reads the file of this name as 16-bit numbers, low byte first, and answers how many came. A presentation has at most 22,962.
-pub fn read_numbers(name: &[u8], numbers: &mut [u16]) -> usize
+pub fn read_numbers(rt: &impl Files, name: &[u8], numbers: &mut [u16]) -> usize
     ensures { IsPrefixLen result numbers.new }
 {
     let mut bytes = [0u8; 45926];
-    let count = read_file(name, &mut bytes);
+    let count = read_file(rt, name, &mut bytes);
     let many = numbers_of(&bytes[..count], numbers);
     stretch(many, numbers)
 }

@@ -1,7 +1,6 @@
 -- Numbers, decimals and letters, computed from the definitions.
 use mathlib.Core.Path.{◌≡◌, refl}
-use mathlib.Core.List.{List, [], ◌∷◌, ◌++◌}
-use Prim.Native.Nat.{ℕ}
+use mathlib.Core.List.{[], ◌∷◌}
 use Rattle.text.specs.Ascii.{ascii}
 use Rattle.text.specs.Decimal.{decimal, spaced}
 use Rattle.text.specs.Numbers.{numbers_of}

@@ -3,9 +3,9 @@
 -- Main laws: `join`, `reworded`, `said`.
 use mathlib.Core.Path.{◌≡◌, refl, sym, ap, ◌∙◌}
 use mathlib.Core.List.{List, [], ◌∷◌, ◌++◌}
-use Prim.Native.Nat.{ℕ, zero, suc, ◌+◌, ◌≤◌, ◌<◌}
+use Prim.Native.Nat.{ℕ, suc, ◌+◌, ◌≤◌, ◌<◌}
 use native.Mathlib.Omega.{arith}
-use lib.ListN.{length, get_or, take, drop, set, length-append, length-set}
+use lib.ListN.{length, get_or, take, drop, set, length-append}
 use lib.Seq.{sets, sets-eq, set_out, take_at, drop-cons}
 use native.Mathlib.Numerals.{add-one}
 use Rattle.text.specs.Added.{Added}

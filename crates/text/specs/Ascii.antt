@@ -3,7 +3,7 @@
 -- Main definition: `ascii`.
 use Rattle.std.specs.Prelude.{List, ℕ}
 use mathlib.Core.List as L
-use Prim.Native.Char.{Char, code}
+use Prim.Native.Char.{code}
 use Prim.Native.String.{String, [], ◌∷◌}
 
 -- Each letter as its number, which for plain letters is its byte.

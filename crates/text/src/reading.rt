@@ -17,6 +17,7 @@ fn least(a: usize, b: usize) -> usize
 
 // Stores the numbers of the bytes from the first place on, as far as there is room, and answers how many it stored.
 // A last byte that has no partner is passed over.
+#[tactic(auto, using(crate::proofs::Unpacking::steps))]
 pub fn numbers_of(bytes: &[u8], numbers: &mut [u16]) -> usize
     ensures { Unpacked bytes.now numbers.old numbers.new result }
 {

@@ -34,6 +34,7 @@ fn digit(value: u64) -> u8
 }
 
 // A number in decimals, with no leading zeros: its tenth part, rounded down, and then its last digit.
+#[tactic(auto, using(crate::proofs::Putting::digits))]
 pub fn put_decimal(out: &mut [u8], at: usize, number: u64) -> usize
     requires { at + length (decimal number) ≤ length out.old }
     ensures { Added out.old at out.new result (decimal number) }
@@ -46,6 +47,7 @@ pub fn put_decimal(out: &mut [u8], at: usize, number: u64) -> usize
 }
 
 // A space and a number: at most 21 bytes.
+#[tactic(auto, using(crate::proofs::Putting::short))]
 pub fn put_number(out: &mut [u8], at: usize, number: u64) -> usize
     requires { at + 21 ≤ length out.old }
     ensures added { Added out.old at out.new result (spaced (number ∷ [])) }
@@ -56,6 +58,7 @@ pub fn put_number(out: &mut [u8], at: usize, number: u64) -> usize
 }
 
 // Three numbers, each with a space before it: at most 63 bytes.
+#[tactic(auto, using(crate::proofs::Putting::three))]
 pub fn put_three(out: &mut [u8], at: usize, a: u64, b: u64, c: u64) -> usize
     requires { at + 63 ≤ length out.old }
     ensures added { Added out.old at out.new result (spaced (a ∷ b ∷ c ∷ [])) }
@@ -67,6 +70,7 @@ pub fn put_three(out: &mut [u8], at: usize, a: u64, b: u64, c: u64) -> usize
 }
 
 // Each of the numbers with a space before it.
+#[tactic(auto, using(crate::proofs::Putting::next))]
 pub fn put_numbers(out: &mut [u8], at: usize, numbers: &[u8]) -> usize
     requires { at + 21 * length numbers.now ≤ length out.old }
     ensures added { Added out.old at out.new result (spaced numbers.now) }

@@ -1,20 +1,21 @@
 // Numbers and vectors on standard output, each entry with a space before it.
 use crate::arith::{entry_at, number_at};
-use io::{print_decimal, write_all};
+use std::io;
 
-fn space_and(n: usize) {
-    write_all(1, b" ");
-    print_decimal(1, n as u64);
+fn space_and(rt: &impl Print, n: usize) -> io::Result<()> {
+    print!(rt; " {n}")
 }
 
-pub fn print_numbers(numbers: &[u16]) {
+pub fn print_numbers(rt: &impl Print, numbers: &[u16]) -> io::Result<()> {
     for at in 0..numbers.len() {
-        space_and(number_at(numbers, at));
+        space_and(rt, number_at(numbers, at))?;
     }
+    Ok(())
 }
 
-pub fn print_entries(vector: &[u8]) {
+pub fn print_entries(rt: &impl Print, vector: &[u8]) -> io::Result<()> {
     for at in 0..vector.len() {
-        space_and(entry_at(vector, at));
+        space_and(rt, entry_at(vector, at))?;
     }
+    Ok(())
 }

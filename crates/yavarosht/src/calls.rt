@@ -7,8 +7,7 @@ ghost use Rattle.yavarosht.specs.Handed.{Handed, HandedDepth};
 use collector::{collect, depth, inverse, product};
 
 // Collects the word onto the vector.
-#[unsafe(no_mangle)]
-pub extern "C" fn yav_collect(
+pub fn yav_collect(
     numbers: &[u16],
     vector: &mut [u8],
     word: &[u16],
@@ -25,8 +24,7 @@ pub extern "C" fn yav_collect(
 }
 
 // The product of the left vector, which it replaces, and the right one, which is only read.
-#[unsafe(no_mangle)]
-pub extern "C" fn yav_product(
+pub fn yav_product(
     numbers: &[u16],
     left: &mut [u8],
     right: &[u8],
@@ -43,8 +41,7 @@ pub extern "C" fn yav_product(
 }
 
 // Replaces the vector by its inverse.
-#[unsafe(no_mangle)]
-pub extern "C" fn yav_inverse(
+pub fn yav_inverse(
     numbers: &[u16],
     vector: &mut [u8],
     budget: u32,
@@ -67,8 +64,7 @@ fn wider(number: u16) -> u32
 }
 
 // The depth of a vector.
-#[unsafe(no_mangle)]
-pub extern "C" fn yav_depth(numbers: &[u16], vector: &[u8], found: &mut u32) -> u8
+pub fn yav_depth(numbers: &[u16], vector: &[u8], found: &mut u32) -> u8
     ensures { HandedDepth (depth_call numbers.now vector.now) result found.new }
 {
     let answer = depth(numbers, vector);

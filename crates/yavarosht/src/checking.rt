@@ -48,8 +48,7 @@ fn verdict_overlap(verdict: Verdict) -> [u16; 4]
 }
 
 // Checks all overlaps in their order.
-#[unsafe(no_mangle)]
-pub extern "C" fn yav_check(
+pub fn yav_check(
     numbers: &[u16],
     budget: u32,
     work: &mut [u16],

@@ -9,8 +9,7 @@ ghost use Rattle.yavarosht.specs.Handed.{HandedPart};
 use layout::{Generator, View, judge, names_relation, span_of, view_of};
 
 // The number that the lent numbers get as a presentation.
-#[unsafe(no_mangle)]
-pub extern "C" fn yav_judge(numbers: &[u16]) -> u8
+pub fn yav_judge(numbers: &[u16]) -> u8
     ensures { result ≡ judged numbers.now }
 {
     judge(numbers)
@@ -52,8 +51,7 @@ fn fetch_judged(
 }
 
 // Where the word of (i, j) begins among the numbers, and how many numbers it has: for any pair and any numbers.
-#[unsafe(no_mangle)]
-pub extern "C" fn yav_fetch(numbers: &[u16], i: u16, j: u16, start: &mut u32, count: &mut u32) -> u8
+pub fn yav_fetch(numbers: &[u16], i: u16, j: u16, start: &mut u32, count: &mut u32) -> u8
     ensures { HandedPart numbers.now i j result start.new count.new }
 {
     *start = 0;

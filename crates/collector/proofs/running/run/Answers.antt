@@ -1,0 +1,19 @@
+-- `run`: a placing that is refused ends the run, any other leaves it underway, and where no slot is left it is done (proofs/Turning).
+use Rattle.std.proofs.Common.{arith, rules}
+use Rattle.collector.proofs.Turning.{turn-off, turn_on, turn-falls, turn_end}
+use Rattle.collector.proofs.running.run.Goals as goal
+
+pub returns-then-placed-ne0 : goal.returns-then-placed-ne0
+returns-then-placed-ne0 c =
+    search (rules, turn-off c.requires.ground c.requires.begins c.loop-slots.invariant (omega arith) c.place-placed.ensures)
+
+pub loop-slots-smaller : goal.loop-slots-smaller
+loop-slots-smaller c =
+    search (rules, turn-falls c.requires.ground c.requires.begins c.loop-slots.invariant (omega arith) c.place-placed.ensures)
+
+pub loop-slots-preserved : goal.loop-slots-preserved
+loop-slots-preserved c =
+    search (rules, turn_on c.requires.ground c.requires.begins c.loop-slots.invariant (omega arith) c.place-placed.ensures)
+
+pub returns : goal.returns
+returns c = search (rules, turn_end c.requires.ground c.requires.begins c.loop-slots.invariant)

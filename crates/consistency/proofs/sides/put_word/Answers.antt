@@ -1,0 +1,13 @@
+-- `put_word` meets its contract: an empty relation word is not put, and any other is put as one string, whose start is small enough for a slot (proofs/Laying).
+use Rattle.consistency.proofs.Laying.{start_small, word_some}
+use Rattle.consistency.proofs.sides.put_word.Goals as goal
+
+pub put-requires : goal.put-requires
+put-requires c =
+    let s = c.span_of-span in
+    (c.requires.depth_bound, start_small c.args.numbers.now c.requires.numbers_value c.args.i.0 c.args.j.0 c.requires.le_i s.result s.ensures)
+
+pub returns : goal.returns
+returns c =
+    let s = c.span_of-span in
+    word_some c.args.numbers.now c.requires.numbers_value c.args.i.0 c.args.j.0 c.requires.le_i s.result s.ensures c.if-span-eq0.false c.put.ensures

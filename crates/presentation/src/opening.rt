@@ -13,7 +13,7 @@ pub fn view_in(numbers: &[u16], number: u8) -> View
 {
     if number != 0 {
         return View {
-            prime: Exponent(2),
+            prime: Exponent(0),
             rank: Generator(0),
             contents: 0,
             bodies: 0,

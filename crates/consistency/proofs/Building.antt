@@ -50,7 +50,8 @@ module _ (nums : List ℕ) where
   pair_is {i = i} {j = j} e h = e ∙ ap (λ (x : Family). Pair x i j) h
 
   module _ (i j k : Generator) where
-    pub left-triple : Listed (Triple i j k) → IsLeft (record { first = part j 1; second = part k 1; third = part j 0; i = j; j = k; last = part i 1 }) (Triple i j k)
+    pub left-triple : Listed (Triple i j k)
+        → IsLeft (record { first = part j 1; second = part k 1; third = part j 0; i = j; j = k; last = part i 1 }) (Triple i j k)
     left-triple a = (
       record {
         first = record { low = omega arith; high = omega arith };
@@ -62,7 +63,8 @@ module _ (nums : List ℕ) where
       refl,
     )
 
-    pub right-triple : Listed (Triple i j k) → IsRight (record { first = part k 1; second = part i 1; third = part j 1; i = i; j = j; last = part i 0 }) (Triple i j k)
+    pub right-triple : Listed (Triple i j k)
+        → IsRight (record { first = part k 1; second = part i 1; third = part j 1; i = i; j = j; last = part i 0 }) (Triple i j k)
     right-triple a = (
       record {
         first = record { low = omega arith; high = a.3 };
@@ -75,7 +77,8 @@ module _ (nums : List ℕ) where
     )
 
   module _ (i j : Generator) where
-    pub left-upper : Listed (Pair Upper i j) → IsLeft (record { first = part j 0; second = part j 0; third = part j 0; i = j; j = j; last = part i 1 }) (Pair Upper i j)
+    pub left-upper : Listed (Pair Upper i j)
+        → IsLeft (record { first = part j 0; second = part j 0; third = part j 0; i = j; j = j; last = part i 1 }) (Pair Upper i j)
     left-upper a = (
       record {
         first = record { low = omega arith; high = a.2 };
@@ -87,7 +90,8 @@ module _ (nums : List ℕ) where
       refl,
     )
 
-    pub right-lower : Listed (Pair Lower i j) → IsRight (record { first = part j 1; second = part j 0; third = part j 0; i = i; j = i; last = part i 0 }) (Pair Lower i j)
+    pub right-lower : Listed (Pair Lower i j)
+        → IsRight (record { first = part j 1; second = part j 0; third = part j 0; i = i; j = i; last = part i 0 }) (Pair Lower i j)
     right-lower a = (
       record {
         first = record { low = omega arith; high = a.2 };

@@ -146,8 +146,11 @@ module _ (nums : List ℕ) (budget room : ℕ) where
       a : Among P 1 came.overlap
       a = among P came.overlap found.listed
 
-      both : Differed (side_outcome nums budget room (left_pieces nums came.overlap)) (side_outcome nums budget room (right_pieces nums came.overlap)) came.left came.right
-      both = differed (side_outcome nums budget room (left_pieces nums came.overlap)) (side_outcome nums budget room (right_pieces nums came.overlap)) came.left came.right found.judged-so
+      both : Differed (side_outcome nums budget room (left_pieces nums came.overlap)) (side_outcome nums budget room (right_pieces nums came.overlap))
+          came.left came.right
+      both =
+          differed (side_outcome nums budget room (left_pieces nums came.overlap)) (side_outcome nums budget room (right_pieces nums came.overlap))
+          came.left came.right found.judged-so
 
       lc : came.left ≡ collect P n 1 (identity n) (left_side P came.overlap)
       lc = left-collects nums h budget room came.overlap a came.left both.left-count both.left-done

@@ -34,5 +34,6 @@ answered n k d v l r e few a b c =
     ∙ ap₂ (λ (x y : Vector). record { verdict = verdict_of d; left = x ++ y; right = r ++ y }) b z
     ∙ ap (λ (x : Vector). record { verdict = verdict_of d; left = left_of n d ++ identity (40 - n); right = x ++ identity (40 - n) }) c
 
-pub ground-of : (nums : List ℕ) (view : View) (bodies : List ℕ) → judged nums ≡ 0 → Seen nums view → bodies ≡ drop (bodies_at nums) nums → Ground nums view bodies []
+pub ground-of : (nums : List ℕ) (view : View) (bodies : List ℕ) → judged nums ≡ 0 → Seen nums view → bodies ≡ drop (bodies_at nums) nums
+    → Ground nums view bodies []
 ground-of nums view bodies h s e = subst (λ (x : List ℕ). Ground nums view x []) (sym e) (ground-empty nums view h s)

@@ -91,7 +91,8 @@ module _ (nums : List ℕ) (room : ℕ) where
     late-decision [] = tt
     late-decision (o ∷ os) =
         settled (judgement nums budget room o)
-        (judged-late (side_outcome nums budget room (left_pieces nums o)) (side_outcome nums budget room (right_pieces nums o)) (late-side (left_pieces nums o)) (late-side (right_pieces nums o)))
+        (judged-late (side_outcome nums budget room (left_pieces nums o)) (side_outcome nums budget room (right_pieces nums o))
+        (late-side (left_pieces nums o)) (late-side (right_pieces nums o)))
         (late-decision os)
       where
         compared-late : (l r : Vector) → LateJudgement (compared l r)

@@ -85,7 +85,9 @@ module _ (nums : List ℕ) (accepts : judged nums ≡ 0) (budget : ℕ) (ws : Li
       left-done : L ≡ done l x.count
       left-done =
           tells-done L x l
-          (λ k d e y. begun-refuses nums accepts budget room (identity (rank_of nums)) (left_pieces nums q) 0 (start-normal nums accepts) (left-formed nums accepts q a) (omega arith) k d e y)
+          (λ k d e y.
+          begun-refuses nums accepts budget room (identity (rank_of nums)) (left_pieces nums q) 0 (start-normal nums accepts)
+          (left-formed nums accepts q a) (omega arith) k d e y)
           left-tells first_done
 
       module _ (side₂ : Side) (is₂ : side_pieces nums side₂ ≡ right_pieces nums (overlap_of o)) {r : Vector} {ws₂ : List ℕ} {y : Answer}
@@ -100,13 +102,16 @@ module _ (nums : List ℕ) (accepts : judged nums ≡ 0) (budget : ℕ) (ws : Li
             → Said (judgement nums budget (length ws / 3) (overlap_of o)) (Stop y.number) left right
         says-right {left} {right} z =
             subst (λ (u : Outcome). Said (judging u R) (Stop y.number) left right) (sym left-done)
-            (subst (λ (u : Outcome). Said (judging (done l x.count) u) (Stop y.number) left right) (sym (tells-refused R y r right-tells z)) (record { says = refl }))
+            (subst (λ (u : Outcome). Said (judging (done l x.count) u) (Stop y.number) left right) (sym (tells-refused R y r right-tells z))
+            (record { says = refl }))
 
         module _ (second-done : y.number ≡ 0) where
           right-done : R ≡ done r y.count
           right-done =
               tells-done R y r
-              (λ k d e z. begun-refuses nums accepts budget room (identity (rank_of nums)) (right_pieces nums q) 0 (start-normal nums accepts) (right-formed nums accepts q a) (omega arith) k d e z)
+              (λ k d e z.
+              begun-refuses nums accepts budget room (identity (rank_of nums)) (right_pieces nums q) 0 (start-normal nums accepts)
+              (right-formed nums accepts q a) (omega arith) k d e z)
               right-tells second-done
 
           both-done : judgement nums budget room q ≡ compared l r

@@ -2,7 +2,8 @@
 --
 -- Main results: `from`, the overlaps from a generator on, with `from_all`, `from-above`, `from_step`, `from_end`, `open_row`,
 -- `open-inner`, `open-item`, `row-over`; `Seeking`, with `seek-start`,
--- `seek-as`, `seek-over`, `seek-next`, `seek_found`, `seek-end`; `finds-first`, `finds-then`.
+-- `seek-as`, `seek-over`, `seek-next`, `seek_found`, `seek-end`; `finds-first`, `finds-then`; `first_settles`, `second_settles`,
+-- `third_settles`, `last_decides`; `single_found`, `single_next`.
 use mathlib.Core.Path.{◌≡◌, refl, sym, ap, ap₂, ◌∙◌, subst}
 use mathlib.Core.List.{List, [], ◌∷◌, ◌++◌, append_assoc}
 use mathlib.Core.Bool.{Bool, true, false}
@@ -10,14 +11,14 @@ use Prim.Native.Nat.{ℕ, suc, ◌+◌, ◌-◌, ◌/◌, ◌≤◌, ◌<◌}
 use native.Mathlib.Omega.{arith}
 use lib.ListN.{length}
 use Rattle.theory.specs.Presentation.{Vector}
-use Rattle.theory.specs.Overlaps.{Overlap, Among, rising, each}
+use Rattle.theory.specs.Overlaps.{Overlap, single, Among, rising, each, overlaps}
 use Rattle.layout.specs.Relations.{presentation}
 use Rattle.consistency.specs.declared.Family.{Family}
 use Rattle.consistency.specs.declared.Family.TheVariants.{Upper, Lower}
 use Rattle.layout.specs.Header.{rank_of}
 use Rattle.consistency.specs.declared.Verdict.{Verdict}
 use Rattle.consistency.specs.declared.Verdict.TheVariants.{Pass, Differs, Stopped}
-use Rattle.consistency.specs.Check.{named, pair_of, Decision, passes, differs, stops, decide, settled, Finds, Found}
+use Rattle.consistency.specs.Check.{named, triples_of, pair_of, pairs_of, Decision, passes, differs, stops, decide, decision, settled, Finds, Found}
 use Rattle.consistency.proofs.Deciding.{or_else, decide-append}
 
 -- The overlaps of the generators from a to n.
@@ -109,8 +110,8 @@ pub record Seeking (nums : List ℕ) (budget : ℕ) (size : ℕ) (whole rest : L
   pub right-long : length right ≡ rank_of nums
   pub decides : decide nums budget (size / 3) rest ≡ decide nums budget (size / 3) whole
 
-pub seek-start : {nums : List ℕ} {budget : ℕ} {ws : List ℕ} {whole rest : List Overlap} {left right : Vector} → length left ≡ rank_of nums → length right ≡ rank_of nums
-    → whole ≡ rest → Seeking nums budget (length ws) whole rest left right ws Pass
+pub seek-start : {nums : List ℕ} {budget : ℕ} {ws : List ℕ} {whole rest : List Overlap} {left right : Vector}
+    → length left ≡ rank_of nums → length right ≡ rank_of nums → whole ≡ rest → Seeking nums budget (length ws) whole rest left right ws Pass
 seek-start {nums} {budget} {ws} l r e =
     record { passing = refl; kept = refl; left-long = l; right-long = r; decides = ap (decide nums budget (length ws / 3)) (sym e) }
 
@@ -148,7 +149,8 @@ module _ {nums : List ℕ} {budget : ℕ} {size : ℕ} {whole : List Overlap} wh
           }
 
 -- One family after the other, each from the workspace that the one before left, which is as long.
-module _ (nums : List ℕ) (budget : ℕ) (size : ℕ) (whole os qs : List Overlap) (so_far : decide nums budget (size / 3) whole ≡ decide nums budget (size / 3) (os ++ qs))
+module _ (nums : List ℕ) (budget : ℕ) (size : ℕ) (whole os qs : List Overlap)
+    (so_far : decide nums budget (size / 3) whole ≡ decide nums budget (size / 3) (os ++ qs))
     (k : ℕ) (long : k ≡ size) {v : Verdict} {l r : Vector} (f : Found (decide nums budget (k / 3) os) v l r) where
   as_long : Found (decide nums budget (size / 3) os) v l r
   as_long = subst (λ (x : ℕ). Found (decide nums budget (x / 3) os) v l r) long f
@@ -164,3 +166,52 @@ pub family-last : (nums : List ℕ) (budget size : ℕ) (whole os : List Overlap
     → Found (decide nums budget (size / 3) whole) v l r
 family-last nums budget size whole os k long {v} {l} {r} e f =
     subst (λ (d : Decision). Found d v l r) (sym e) (subst (λ (x : ℕ). Found (decide nums budget (x / 3) os) v l r) long f)
+
+-- All overlaps: the first family that settles the verdict settles it, and the last one decides if none before it does. The last is written out, as
+-- `overlaps` has it.
+module _ (nums : List ℕ) (budget size : ℕ) where
+  abbrev n : ℕ
+  n = rank_of nums
+
+  abbrev last : List Overlap
+  last = each (rising 1 n) (λ i. single i ∷ [])
+
+  module _ {v₁ : Verdict} {l₁ r₁ : Vector} (triples : Found (decide nums budget (size / 3) (triples_of (rank_of nums))) v₁ l₁ r₁) where
+    pub first_settles : settled v₁ ≡ true → Found (decision nums budget (size / 3)) v₁ l₁ r₁
+    first_settles s = family-found nums budget size (overlaps n) (triples_of n) (pairs_of Upper n ++ (pairs_of Lower n ++ last)) refl size refl triples s
+
+    module _ (first_leaves : settled v₁ ≡ false) {k₂ : ℕ} {v₂ : Verdict} {l₂ r₂ : Vector}
+        (uppers : Found (decide nums budget (k₂ / 3) (pairs_of Upper (rank_of nums))) v₂ l₂ r₂) (long₂ : k₂ ≡ size) where
+      from_uppers : decide nums budget (size / 3) (overlaps n) ≡ decide nums budget (size / 3) (pairs_of Upper n ++ (pairs_of Lower n ++ last))
+      from_uppers =
+          family-over nums budget size (overlaps n) (triples_of n) (pairs_of Upper n ++ (pairs_of Lower n ++ last)) refl size refl triples first_leaves
+
+      pub second_settles : settled v₂ ≡ true → Found (decision nums budget (size / 3)) v₂ l₂ r₂
+      second_settles s = family-found nums budget size (overlaps n) (pairs_of Upper n) (pairs_of Lower n ++ last) from_uppers k₂ long₂ uppers s
+
+      module _ (second_leaves : settled v₂ ≡ false) {k₃ : ℕ} {v₃ : Verdict} {l₃ r₃ : Vector}
+          (lowers : Found (decide nums budget (k₃ / 3) (pairs_of Lower (rank_of nums))) v₃ l₃ r₃) (long₃ : k₃ ≡ size) where
+        from_lowers : decide nums budget (size / 3) (overlaps n) ≡ decide nums budget (size / 3) (pairs_of Lower n ++ last)
+        from_lowers =
+            family-over nums budget size (overlaps n) (pairs_of Upper n) (pairs_of Lower n ++ last) from_uppers k₂ long₂ uppers second_leaves
+
+        pub third_settles : settled v₃ ≡ true → Found (decision nums budget (size / 3)) v₃ l₃ r₃
+        third_settles s = family-found nums budget size (overlaps n) (pairs_of Lower n) last from_lowers k₃ long₃ lowers s
+
+        pub last_decides : settled v₃ ≡ false → {k₄ : ℕ} {v₄ : Verdict} {l₄ r₄ : Vector}
+            → Found (decide nums budget (k₄ / 3) (each (rising 1 (rank_of nums)) (λ i. single i ∷ []))) v₄ l₄ r₄ → k₄ ≡ size
+            → Found (decision nums budget (size / 3)) v₄ l₄ r₄
+        last_decides s {k₄} singles long₄ =
+            family-last nums budget size (overlaps n) last k₄ long₄
+            (family-over nums budget size (overlaps n) (pairs_of Lower n) last from_lowers k₃ long₃ lowers s) singles
+
+-- One overlap of the last family.
+module _ {nums : List ℕ} {budget size : ℕ} {whole : List Overlap} {left right : Vector} {ws : List ℕ} {verdict : Verdict} {i : ℕ}
+    (s : Seeking nums budget size whole (from (rank_of nums) i (λ x. single x ∷ [])) left right ws verdict) (inside : i ≤ rank_of nums)
+    {v : Verdict} {l r : Vector} (found : Found (decide nums budget (length ws / 3) (single i ∷ [])) v l r) where
+  pub single_found : settled v ≡ true → Found (decide nums budget (size / 3) whole) v l r
+  single_found t = seek_found (seek-as (from_step (rank_of nums) (λ x. single x ∷ []) i inside) s) found t
+
+  pub single_next : settled v ≡ false → {ws' : List ℕ} → length ws' ≡ length ws → length l ≡ length left → length r ≡ length right
+      → Seeking nums budget size whole (from (rank_of nums) (i + 1) (λ x. single x ∷ [])) l r ws' v
+  single_next t kept x y = seek-next (seek-as (from_step (rank_of nums) (λ x. single x ∷ []) i inside) s) found t kept x y

@@ -1,15 +1,17 @@
 -- The steps from a file's bytes to the line, as the code takes them.
 --
--- Main laws: `answered-no`, `answered-yes`, `few_bytes`, `line-is`.
-use mathlib.Core.Path.{◌≡◌, ap, ◌∙◌}
+-- Main laws: `answered-no`, `answered-yes`, `few_bytes`, `read-back`, `line-is`.
+use mathlib.Core.Path.{◌≡◌, sym, ap, ◌∙◌}
 use mathlib.Core.List.{List}
 use mathlib.Core.Bool.{Bool, true, false, ◌&&◌}
-use Prim.Native.Nat.{ℕ, ◌%◌, ◌≤◌, ◌<◌}
+use Prim.Native.Nat.{ℕ, ◌+◌, ◌/◌, ◌%◌, ◌≤◌, ◌<◌}
 use borrow.Author.Tests.{le-leb, lt-leb, leb-true, eq-eqb, ne_eqb}
 use native.Mathlib.Omega.{arith}
-use lib.ListN.{length}
+use lib.ListN.{length, take, drop}
+use lib.Seq.{sets, sets-eq, take_at}
 use lib.Dec.{leb, eqb}
 use Rattle.text.specs.Numbers.{numbers_of}
+use Rattle.text.proofs.Unpacking.{numbers-length}
 use Rattle.layout.specs.Header.{prime_of, rank_of}
 use Rattle.consistency.specs.Check.{check_of}
 use Rattle.consistency.specs.declared.Checked.{Checked}
@@ -65,3 +67,17 @@ module _ (numbers : List ℕ) where
       ap (λ (x : ℕ). line_of x n checked) d
       ∙ ap (λ (x : ℕ). line_of (prime_in numbers) x checked) e
       ∙ ap (λ (x : Checked). line_of (prime_in numbers) (rank_in numbers) x) f
+
+-- Where there is room for all, the first `count` of what was stored are the bytes' numbers.
+pub read-back : (bytes old : List ℕ) (count : ℕ)
+    → length bytes / 2 ≤ count
+    → count ≤ length bytes / 2
+    → count ≤ length old
+    → take count (sets old 0 (numbers_of bytes)) ≡ numbers_of bytes
+read-back bytes old count low high room =
+    let e : count ≡ length (numbers_of bytes) = omega (arith, numbers-length bytes) in
+    let within : 0 + length (numbers_of bytes) ≤ length old = omega arith in
+    rw (sets-eq (numbers_of bytes) old 0 within) (take_at (numbers_of bytes) (drop (0 + length (numbers_of bytes)) old) count (sym e))
+
+-- For `line_for`.
+pub ruleset decided = (answered-no, answered-yes, few_bytes, read-back)

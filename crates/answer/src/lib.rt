@@ -51,6 +51,7 @@ fn named_in(numbers: &[u16]) -> Named
 }
 
 // Checks the numbers and writes the line of the answer.
+#[tactic(auto, unfolding(crate::specs::File::check_line))]
 fn checked_line(numbers: &[u16], budget: u32, work: &mut [u16], out: &mut [u8]) -> usize
     requires { 2048 ≤ length out.old }
     ensures added { Added out.old 0 out.new result (check_line numbers.now budget (length work.old / 3)) }
@@ -64,6 +65,7 @@ fn checked_line(numbers: &[u16], budget: u32, work: &mut [u16], out: &mut [u8]) 
 }
 
 // Writes the line for the bytes of a file. The numbers are made in `numbers`.
+#[tactic(auto, using(crate::proofs::Answers::decided))]
 pub fn line_for(
     bytes: &[u8],
     numbers: &mut [u16],

@@ -1,11 +1,9 @@
--- The parts of a line, put one after the other, are the line: one law for each kind of line.
+-- The parts of a line, put one after the other, are the line: one law for each kind of line, and with it the ruleset that the
+-- function that puts the line takes.
 --
 -- Main laws: `pass-parts`, `refused-parts`, `stopped-parts`, `differs-parts`, `told`.
-use mathlib.Core.Path.{◌≡◌, sym, ap, ◌∙◌}
-use mathlib.Core.List.{List, [], ◌∷◌, ◌++◌, append_assoc, append-nil}
-use Prim.Native.Nat.{ℕ, ◌+◌}
-use lib.ListN.{length, length-append}
-use lib.Seq.{sets}
+use Rattle.std.proofs.Common.{◌≡◌, ℕ, ◌+◌, List, [], ◌∷◌, ◌++◌, length, sym, ap, ◌∙◌, append_assoc, append-nil, length-append}
+use Rattle.std.proofs.lemmas.List.Edits.{sets}
 use Rattle.text.specs.Added.{Added}
 use Rattle.text.specs.Ascii.{ascii}
 use Rattle.text.specs.Decimal.{spaced}

@@ -1,12 +1,9 @@
--- The steps of putting numbers, as the code takes them: each law gives what two runs of stores leave, and the rulesets are the laws
--- that the functions of `writing` name.
+-- The steps of putting numbers, as the code takes them: what runs of stores leave, each from where the one before ends. A ruleset
+-- has the laws that a function of `writing` takes.
 --
--- Main laws: `put-more`, `put-three`, `put-next`.
-use mathlib.Core.Path.{◌≡◌, sym, ap, ◌∙◌}
-use mathlib.Core.List.{List, [], ◌∷◌, ◌++◌, append-nil}
-use Prim.Native.Nat.{ℕ, ◌+◌, ◌/◌, ◌%◌, ◌≤◌, ◌<◌}
-use lib.ListN.{length, get_or, take, length-append}
-use lib.Seq.{sets}
+-- Main laws: `put-more`, `put-three`, `put-next`, `length-next`.
+use Rattle.std.proofs.Common.{◌≡◌, ℕ, ◌+◌, ◌/◌, ◌%◌, ◌≤◌, ◌<◌, List, [], ◌∷◌, ◌++◌, length, get_or, take, sym, ap, ◌∙◌, append-nil, length-append}
+use Rattle.std.proofs.lemmas.List.Edits.{sets}
 use Rattle.text.specs.Decimal.{decimal, spaced}
 use Rattle.text.proofs.Joining.{sets-append}
 use Rattle.text.proofs.Digits.{decimal-one, decimal-more, length-one, length_more, decimal-short, spaced-append, spaced-step}
@@ -45,16 +42,21 @@ put-next old at i k n l h e f =
     (λ (t : List ℕ). sets old at t)
     (ap (λ (m : ℕ). spaced (take i l) ++ spaced (m ∷ [])) e ∙ spaced-step l i h)
 
+-- How many bytes they have.
 pub length-next : (l : List ℕ) (i : ℕ)
     → i < length l
     → length (spaced (take (i + 1) l)) ≡ length (spaced (take i l)) + length (spaced (get_or l i 0 ∷ []))
 length-next l i h =
     ap length (sym (spaced-step l i h)) ∙ length-append (spaced (take i l)) (spaced (get_or l i 0 ∷ []))
 
+-- For `put_decimal`.
 pub ruleset digits = (decimal-one, length-one, length_more, put-more)
 
+-- For `put_number`.
 pub ruleset short = (decimal-short)
 
+-- For `put_three`.
 pub ruleset three = (put-three, length-append, append-nil)
 
+-- For `put_numbers`.
 pub ruleset next = (put-next, length-next)

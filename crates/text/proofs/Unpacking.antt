@@ -1,6 +1,6 @@
 -- The numbers of a file's bytes, one by one.
 --
--- Main laws: `numbers-length`, `number_at`, `unpacked`, `all-unpacked`.
+-- Main laws: `numbers-length`, `number_at`, `unpacked`, `all-unpacked`, `store-next`, `store-end`.
 use mathlib.Core.Path.{◌≡◌, refl, sym, ap, ◌∙◌}
 use mathlib.Core.List.{List, [], ◌∷◌}
 use Prim.Native.Nat.{ℕ, zero, suc, ◌+◌, ◌*◌, ◌/◌, ◌≤◌, ◌<◌, min}
@@ -78,4 +78,5 @@ store-end bytes l count h =
     (λ a m. ap (λ (t : List ℕ). sets l count t) (drop_of_length-le (numbers_of bytes) {i = count} (omega (arith, numbers-length bytes))))
     (λ b m. sets-out (drop count (numbers_of bytes)) l count (omega arith))
 
+-- For `numbers_of`.
 pub ruleset steps = (store-next, store-end, length-set)

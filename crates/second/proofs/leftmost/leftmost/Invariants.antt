@@ -1,0 +1,10 @@
+-- The loop of `leftmost`: nothing begins at any place passed.
+use Rattle.std.proofs.Common.{◌-◌, ◌≤◌, ◌<◌, ℕ}
+use Rattle.second.specs.Normal.{Rises, Changes}
+use Rattle.second.proofs.leftmost.leftmost.Given as goal
+
+abbrev pub invariant-loop-at : goal.invariant-loop-at
+invariant-loop-at l = (l.at ≤ l.len) × ((k : ℕ) → k < l.at → Rises l.letters l.len k × Changes l.letters l.len l.p k)
+
+abbrev pub decreases-loop-at : goal.decreases-loop-at
+decreases-loop-at l = l.len - l.at

@@ -1,36 +1,40 @@
 // Printing what came back.
 use crate::work::State;
 use collector::Answer;
-use io::{print_decimal, write_all};
+use std::io;
 use total::print_entries;
 
-pub fn print_number(x: u64) {
-    write_all(1, b" ");
-    print_decimal(1, x);
+pub fn print_number(rt: &impl Print, x: u64) -> io::Result<()> {
+    print!(rt; " {x}")
 }
 
-fn print_state(state: State) {
+fn print_state(rt: &impl Print, state: State) -> io::Result<()> {
     match state {
-        State::Nothing => write_all(1, b"; no work"),
-        State::Zero => write_all(1, b"; work zero"),
-        State::Kept => write_all(1, b"; work kept"),
-        State::Mixed => write_all(1, b"; work mixed"),
-    };
+        State::Nothing => print!(rt; "; no work"),
+        State::Zero => print!(rt; "; work zero"),
+        State::Kept => print!(rt; "; work kept"),
+        State::Mixed => print!(rt; "; work mixed"),
+    }
 }
 
 // An answer, the vector as it then was, and the workspace.
-pub fn print_answer(answer: Answer, vector: &[u8], state: State) {
-    print_number(answer.number as u64);
-    write_all(1, b"; count");
-    print_number(answer.count as u64);
-    write_all(1, b"; vector");
-    print_entries(vector);
-    print_state(state);
+pub fn print_answer(
+    rt: &impl Print,
+    answer: Answer,
+    vector: &[u8],
+    state: State,
+) -> io::Result<()> {
+    print_number(rt, answer.number as u64)?;
+    print!(rt; "; count")?;
+    print_number(rt, answer.count as u64)?;
+    print!(rt; "; vector")?;
+    print_entries(rt, vector)?;
+    print_state(rt, state)
 }
 
 // The check's line, and the workspace.
-pub fn print_check(line: &[u8], state: State) {
-    write_all(1, b" ");
-    write_all(1, line);
-    print_state(state);
+pub fn print_check(rt: &impl Print, line: &[u8], state: State) -> io::Result<()> {
+    print!(rt; " ")?;
+    rt.write_all(line)?;
+    print_state(rt, state)
 }

@@ -4,8 +4,9 @@
 #![tactic(auto)]
 
 use collector::{inverse, product};
-use io::{print_decimal, write_all};
 use pcp_run::print_line;
+use std::io;
+use std::rt::Files;
 use table::{before, begins, entries_in, field, initial, read_file, read_numbers};
 use total::print_entries;
 
@@ -13,76 +14,86 @@ use total::print_entries;
 const BUDGET: u32 = 1000000;
 
 // What came back: the vector, or the number of the refusal.
-fn print_answer(number: u8, vector: &[u8]) {
+fn print_answer(rt: &impl Print, number: u8, vector: &[u8]) -> io::Result<()> {
     if number != 0 {
-        write_all(1, b" refused ");
-        print_decimal(1, number as u64);
+        print!(rt; " refused {number}")?;
     } else {
-        print_entries(vector);
+        print_entries(rt, vector)?;
     }
-    write_all(1, b"\n");
+    println!(rt)
 }
 
-fn multiply_in(numbers: &[u16], left: &mut [u8], right: &[u8], work: &mut [u16]) {
+fn multiply_in(
+    rt: &impl Print,
+    numbers: &[u16],
+    left: &mut [u8],
+    right: &[u8],
+    work: &mut [u16],
+) -> io::Result<()> {
     let answer = product(numbers, left, right, BUDGET, work);
-    print_answer(answer.number, left);
+    print_answer(rt, answer.number, left)
 }
 
 // u times v.
-fn multiply(line: &[u8], numbers: &[u16], work: &mut [u16]) {
+fn multiply(rt: &impl Print, line: &[u8], numbers: &[u16], work: &mut [u16]) -> io::Result<()> {
     let mut left = [0u8; 40];
     let n = entries_in(field(line, 2), &mut left);
     let mut right = [0u8; 40];
     let m = entries_in(field(line, 3), &mut right);
-    multiply_in(numbers, &mut left[..n], &right[..m], work);
+    multiply_in(rt, numbers, &mut left[..n], &right[..m], work)
 }
 
-fn invert_in(numbers: &[u16], vector: &mut [u8], work: &mut [u16]) {
+fn invert_in(
+    rt: &impl Print,
+    numbers: &[u16],
+    vector: &mut [u8],
+    work: &mut [u16],
+) -> io::Result<()> {
     let answer = inverse(numbers, vector, BUDGET, work);
-    print_answer(answer.number, vector);
+    print_answer(rt, answer.number, vector)
 }
 
 // The inverse of u.
-fn invert(line: &[u8], numbers: &[u16], work: &mut [u16]) {
+fn invert(rt: &impl Print, line: &[u8], numbers: &[u16], work: &mut [u16]) -> io::Result<()> {
     let mut vector = [0u8; 40];
     let n = entries_in(field(line, 2), &mut vector);
-    invert_in(numbers, &mut vector[..n], work);
+    invert_in(rt, numbers, &mut vector[..n], work)
 }
 
 // The presentation of the file, and room for 8,192 slots.
-fn presented(line: &[u8], numbers: &mut [u16]) {
-    let n = read_numbers(field(line, 1), numbers);
+fn presented(rt: &(impl Files + Print), line: &[u8], numbers: &mut [u16]) -> io::Result<()> {
+    let n = read_numbers(rt, field(line, 1), numbers);
     let mut work = [0u16; 24576];
     if initial(line) == b'p' {
-        multiply(line, &numbers[..n], &mut work);
+        multiply(rt, line, &numbers[..n], &mut work)
     } else {
-        invert(line, &numbers[..n], &mut work);
+        invert(rt, line, &numbers[..n], &mut work)
     }
 }
 
 // A call: "group" and a file, "product", a file, u and v, or "inverse", a file and u.
-fn call(line: &[u8]) {
-    write_all(1, line);
-    write_all(1, b" =");
+fn call(rt: &(impl Files + Print), line: &[u8]) -> io::Result<()> {
+    rt.write_all(line)?;
+    print!(rt; " =")?;
     if initial(line) == b'g' {
-        write_all(1, b" ");
-        print_line(field(line, 1));
-        return;
+        print!(rt; " ")?;
+        return print_line(rt, field(line, 1));
     }
     let mut numbers = [0u16; 22962];
-    presented(line, &mut numbers);
+    presented(rt, line, &mut numbers)
 }
 
-fn calls(table: &[u8]) {
+fn calls(rt: &(impl Files + Print), table: &[u8]) -> io::Result<()> {
     for at in 0..table.len() {
         if begins(table, at, b'\n') {
-            call(before(&table[at..], b'\n'));
+            call(rt, before(&table[at..], b'\n'))?;
         }
     }
+    Ok(())
 }
 
-fn main() {
+fn main(rt: HostRuntime) -> io::Result<()> {
     let mut table = [0u8; 65536];
-    let n = read_file(b"calls", &mut table);
-    calls(&table[..n]);
+    let n = read_file(&rt, b"calls", &mut table);
+    calls(&rt, &table[..n])
 }

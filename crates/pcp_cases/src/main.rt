@@ -4,18 +4,19 @@
 #![tactic(auto)]
 
 use pcp_run::print_line;
+use std::io;
 
-fn main() {
-    print_line(b"q.pcp");
-    print_line(b"z.pcp");
-    print_line(b"family_1.pcp");
-    print_line(b"family_2.pcp");
-    print_line(b"family_3.pcp");
-    print_line(b"empty.pcp");
-    print_line(b"one_byte.pcp");
-    print_line(b"odd.pcp");
-    print_line(b"long.pcp");
-    print_line(b"at_limit.pcp");
-    print_line(b"absent.pcp");
-    print_line(b".");
+fn main(rt: HostRuntime) -> io::Result<()> {
+    print_line(&rt, b"q.pcp")?;
+    print_line(&rt, b"z.pcp")?;
+    print_line(&rt, b"family_1.pcp")?;
+    print_line(&rt, b"family_2.pcp")?;
+    print_line(&rt, b"family_3.pcp")?;
+    print_line(&rt, b"empty.pcp")?;
+    print_line(&rt, b"one_byte.pcp")?;
+    print_line(&rt, b"odd.pcp")?;
+    print_line(&rt, b"long.pcp")?;
+    print_line(&rt, b"at_limit.pcp")?;
+    print_line(&rt, b"absent.pcp")?;
+    print_line(&rt, b".")
 }

@@ -41,7 +41,7 @@ fn read_open(file: &mut impl Read, bytes: &mut [u8]) -> usize
     at
 }
 
-// Reads the file of this name. "A file that can't be read counts as empty."
+// Reads the file of this name. "A file that can't be read counts as empty." Paths are UTF-8 text here: any other name can't be read.
 fn read_file(rt: &impl Files, name: &[u8], bytes: &mut [u8]) -> usize
     ensures { result ≤ length bytes.new }
 {

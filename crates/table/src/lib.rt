@@ -34,7 +34,8 @@ fn read_open(file: &mut impl Read, bytes: &mut [u8]) -> usize
     part(at, bytes)
 }
 
-// Reads the file of this name, as far as there is room, and answers how many bytes came: 0 if it can't be read.
+// Reads the file of this name, as far as there is room, and answers how many bytes came: 0 if it can't be read. Paths are UTF-8 text
+// here: any other name can't be read.
 pub fn read_file(rt: &impl Files, name: &[u8], bytes: &mut [u8]) -> usize
     ensures { IsPrefixLen result bytes.new }
 {

@@ -1,33 +1,38 @@
 // Printing: a case on which the collectors disagree, and the line of counts.
 use crate::Tally;
-use io::{print_decimal, write_all};
+use std::io;
 use total::{print_entries, print_numbers};
 
 // The beginning of a case: the call, the presentation's numbers and the vector. The word or the right factor comes after it.
-pub fn disagreement(numbers: &[u16], vector: &[u8], call: &[u8]) {
-    write_all(1, b"the collectors disagree on ");
-    write_all(1, call);
-    write_all(1, b": numbers");
-    print_numbers(numbers);
-    write_all(1, b"; vector");
-    print_entries(vector);
-    write_all(1, b"; with");
+pub fn disagreement(
+    rt: &impl Print,
+    numbers: &[u16],
+    vector: &[u8],
+    call: &[u8],
+) -> io::Result<()> {
+    print!(rt; "the collectors disagree on ")?;
+    rt.write_all(call)?;
+    print!(rt; ": numbers")?;
+    print_numbers(rt, numbers)?;
+    print!(rt; "; vector")?;
+    print_entries(rt, vector)?;
+    print!(rt; "; with")
 }
 
-pub fn end_of_case() {
-    write_all(1, b"\n");
+pub fn end_of_case(rt: &impl Print) -> io::Result<()> {
+    println!(rt)
 }
 
-fn counted(count: u64, of: &[u8]) {
-    print_decimal(1, count);
-    write_all(1, of);
+fn counted(rt: &impl Print, count: u64, of: &[u8]) -> io::Result<()> {
+    print!(rt; "{count}")?;
+    rt.write_all(of)
 }
 
-pub fn summary(tally: Tally) {
-    counted(tally.presentations, b" presentations, ");
-    counted(tally.collections, b" words, ");
-    counted(tally.products, b" products, ");
-    counted(tally.inverses, b" inverses, ");
-    counted(tally.replacements, b" replacements: ");
-    counted(tally.wrong, b" disagreements\n");
+pub fn summary(rt: &impl Print, tally: Tally) -> io::Result<()> {
+    counted(rt, tally.presentations, b" presentations, ")?;
+    counted(rt, tally.collections, b" words, ")?;
+    counted(rt, tally.products, b" products, ")?;
+    counted(rt, tally.inverses, b" inverses, ")?;
+    counted(rt, tally.replacements, b" replacements: ")?;
+    counted(rt, tally.wrong, b" disagreements\n")
 }

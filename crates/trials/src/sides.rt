@@ -1,6 +1,5 @@
 // One call of the proved collector and the same by the second one: whether vectors and counts agree. Each call has a workspace or a row of
 // letters of its own, so that the functions above lend none.
-use check::same;
 use collector::{collect, inverse, product};
 use second::{append_vector, append_word, rewrite, vector_of};
 use total::{difference, entry_at, number_at, part, store_entry, sum, to_word};
@@ -44,7 +43,7 @@ fn agrees(ours: Answered, other: Answered, first: &[u8], second: &[u8]) -> bool 
     if ours.count != other.count {
         return false;
     }
-    same(first, second)
+    first == second
 }
 
 fn outcome(ours: Answered, other: Answered, first: &[u8], second: &[u8]) -> Held {

@@ -31,7 +31,8 @@ use Rattle.slots.specs.Pieces.{Piece, letters, AllWellFormed}
 use Rattle.placing.proofs.Spelled.{pieces-over}
 use Rattle.collector.specs.Inputs.{vector_right, word_right, word_slots, power_slots}
 use Rattle.collector.specs.Run.{Outcome, done, refused, Runs, begun}
-use Rattle.collector.specs.Calls.{Left, closed, untouched, room_of, vector_number, inverting, collect_call, product_call, inverse_call, judged_first, vector_first}
+use Rattle.collector.specs.Calls.{Left, closed, untouched, room_of, vector_number, inverting}
+use Rattle.collector.specs.Calls.{collect_call, product_call, inverse_call, judged_first, vector_first}
 use Rattle.collector.proofs.Judging.{vector-normal, word-formed, word-letters, power-formed, power-letters}
 use Rattle.collector.proofs.Outcomes.{outcome-is}
 use Rattle.collector.proofs.Calling.{Accepts, accepted-first, refused-first, go-first, word-accepted, word-refused, right-accepted, right-refused}
@@ -97,7 +98,8 @@ module _ (nums : List ℕ) (accepts : judged nums ≡ 0) (budget : ℕ) (v : Vec
       → Unchanged (closed o v ws) (closed (begun nums budget' (room_of ws') v slots 0) v ws')
   larger budget' ws' a b e =
       let x = begun-larger nums accepts budget (room_of ws) budget' (room_of ws') a b v slots 0 normal formed (is-done e) in
-      let y : closed (begun nums budget' (room_of ws') v slots 0) v ws' ≡ closed (done (closed o v ws).vector (closed o v ws).count) v ws' = ap (λ (q : Outcome). closed q v ws') x in
+      let y : closed (begun nums budget' (room_of ws') v slots 0) v ws' ≡ closed (done (closed o v ws).vector (closed o v ws).count) v ws' =
+      ap (λ (q : Outcome). closed q v ws') x in
       record { number = e ∙ ap (λ (l : Left). l.number) (sym y); count = ap (λ (l : Left). l.count) (sym y); vector = ap (λ (l : Left). l.vector) (sym y) }
 
 -- Collecting.
@@ -190,7 +192,8 @@ module _ (nums : List ℕ) (u v : Vector) (budget : ℕ) (ws : List ℕ) where
       (begun-means nums a.first.accepts budget u (vector-normal nums u a.first.vector-right) (power_slots 1 v) (formed a) ws
       (ap (λ (l : Left). l.number) (sym is) ∙ e)))
 
-  pub product-vector : (product_call nums u v budget ws).number ≡ 0 → (product_call nums u v budget ws).vector ≡ product (presentation nums) (rank_of nums) 1 u v
+  pub product-vector : (product_call nums u v budget ws).number ≡ 0
+      → (product_call nums u v budget ws).vector ≡ product (presentation nums) (rank_of nums) 1 u v
   product-vector e =
       let a = product-accepted e in
       let is = product_is a in
@@ -231,7 +234,9 @@ module _ (nums : List ℕ) (v : Vector) (budget : ℕ) (ws : List ℕ) where
       → inverted ≡ done (inverse_call nums v budget ws).vector (inverse_call nums v budget ws).count
   inverse-done a e =
       closed-done inverted v ws
-      (inverting-refuses nums a.accepts budget (room_of ws) (rank_of nums) 1 v 0 (omega arith) (omega arith) (vector-normal nums v a.vector-right) (omega arith))
+      (inverting-refuses nums a.accepts budget (room_of ws) (rank_of nums) 1 v 0 (omega arith) (omega arith)
+      (vector-normal nums v a.vector-right)
+      (omega arith))
       (ap (λ (l : Left). l.number) (sym (inverse-is a)) ∙ e)
       ∙ ap (λ (l : Left). done l.vector l.count) (sym (inverse-is a))
 
@@ -261,7 +266,10 @@ module _ (nums : List ℕ) (v : Vector) (budget : ℕ) (ws : List ℕ) where
   inverse-larger budget' ws' b h e =
       let a = inverse-accepted e in
       let p = vector-normal nums v a.vector-right in
-      let x = inverting-larger nums a.accepts budget (room_of ws) budget' (room_of ws') b h (rank_of nums) 1 v 0 _ _ (omega arith) (omega arith) p (omega arith) (inverse-done a e) in
+      let x =
+      inverting-larger nums a.accepts budget (room_of ws) budget' (room_of ws') b h (rank_of nums) 1 v 0 _ _ (omega arith) (omega arith) p
+      (omega arith)
+      (inverse-done a e) in
       let y : inverse_call nums v budget' ws' ≡ closed (done (inverse_call nums v budget ws).vector (inverse_call nums v budget ws).count) v ws' =
       go-first nums v ws' _ a ∙ ap (λ (q : Outcome). closed q v ws') x in
       record { number = e ∙ ap (λ (l : Left). l.number) (sym y); count = ap (λ (l : Left). l.count) (sym y); vector = ap (λ (l : Left). l.vector) (sym y) }

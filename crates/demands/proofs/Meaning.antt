@@ -65,7 +65,8 @@ module _ (nums : List ℕ) (accepts : judged nums ≡ 0) where
         → (t : ℕ) × (d ≡ c + t) × Collects P 1 v (replicate (complement (exponent_of nums i) (get_or v (i - 1) 0)) i) t r
     turned-collects i v c r d low high p e = go (eqb (get_or v (i - 1) 0) 0) refl
       where
-        go : (b : Bool) → eqb (get_or v (i - 1) 0) 0 ≡ b → (t : ℕ) × (d ≡ c + t) × Collects P 1 v (replicate (complement (exponent_of nums i) (get_or v (i - 1) 0)) i) t r
+        go : (b : Bool) → eqb (get_or v (i - 1) 0) 0 ≡ b
+            → (t : ℕ) × (d ≡ c + t) × Collects P 1 v (replicate (complement (exponent_of nums i) (get_or v (i - 1) 0)) i) t r
         go true x =
             let y : done v c ≡ done r d = rw (x, turned) at e in
             let vr : v ≡ r = cc in
@@ -77,7 +78,8 @@ module _ (nums : List ℕ) (accepts : judged nums ≡ 0) where
             let l : get_or v (i - 1) 0 < prime_of nums = normal-at P n 1 (i - 1) v p (omega arith) in
             let q = begun-collects v (power i b ∷ []) c p (record { low = low; high = high; some = omega arith }, tt) y in
             let w : replicate b i ++ [] ≡ replicate (complement (exponent_of nums i) (get_or v (i - 1) 0)) i =
-            append-nil (replicate b i) ∙ ap (λ (z : ℕ). replicate z i) (complement-is (exponent_of nums i) (get_or v (i - 1) 0) (eqb-false (get_or v (i - 1) 0) 0 x)) in
+            append-nil (replicate b i)
+            ∙ ap (λ (z : ℕ). replicate z i) (complement-is (exponent_of nums i) (get_or v (i - 1) 0) (eqb-false (get_or v (i - 1) 0) 0 x)) in
             (q.0, q.1, subst (λ (u : Word). Collects P 1 v u q.0 r) w q.2)
 
     -- Entries 0 before a vector.
@@ -106,7 +108,9 @@ module _ (nums : List ℕ) (accepts : judged nums ≡ 0) where
         let b = complement (P.exponent i) a in
         let l : Level P (suc k) i = record { first = omega arith; fits = omega arith } in
         let o : Over P i (replicate b i) = over-block P i b i (omega arith) (omega arith) in
-        (collects-to P (valid nums accepts) n 1 (whole P) (deep-normal e (suc k) n 1 i (a ∷ h) (omega arith) s (whole P) p) (over-weaken P 1 i (replicate b i) (omega arith) o) x).1
+        (collects-to P (valid nums accepts) n 1 (whole P)
+        (deep-normal e (suc k) n 1 i (a ∷ h) (omega arith) s (whole P) p)
+        (over-weaken P 1 i (replicate b i) (omega arith) o) x).1
         ∙ collect-deep P e (suc k) n 1 i (a ∷ h) (replicate b i) (omega arith) s o
         ∙ ap (λ (y : Vector). identity e ++ y) (block-left P (valid nums accepts) k i b a h l p)
         ∙ ap (λ (y : ℕ). identity e ++ (y ∷ next-left k i a h)) (complement-clears P (valid nums accepts) (P.exponent i) a p.0)
@@ -139,7 +143,8 @@ module _ (nums : List ℕ) (accepts : judged nums ≡ 0) where
         }
     inverting-clears (suc k) e i [] c r d q s p x = absurd p
     inverting-clears (suc k) e i (a ∷ h) c r d q s p x =
-        go (turned nums budget room i (identity e ++ (a ∷ h)) c) refl (λ u c' r' y z. inverting-clears k (suc e) (suc i) u c' r' d (omega arith) (omega arith) y z)
+        go (turned nums budget room i (identity e ++ (a ∷ h)) c) refl
+        (λ u c' r' y z. inverting-clears k (suc e) (suc i) u c' r' d (omega arith) (omega arith) y z)
       where
         v : Vector
         v = identity e ++ (a ∷ h)
@@ -151,11 +156,13 @@ module _ (nums : List ℕ) (accepts : judged nums ≡ 0) where
         entry = let y : i - 1 ≡ e = omega arith in ap (λ (z : ℕ). get_or v z 0) y ∙ deep-entry e a h
 
         go : (o : Outcome) → turned nums budget room i v c ≡ o
-            → ((u : Vector) (c' : ℕ) (r' : Vector) → Normal P k (suc i) u → inverting nums budget room k (suc i) (identity (suc e) ++ u) c' ≡ done r' d → Clears k (suc e) (suc i) u c' r' d)
+            → ((u : Vector) (c' : ℕ) (r' : Vector) → Normal P k (suc i) u
+            → inverting nums budget room k (suc i) (identity (suc e) ++ u) c' ≡ done r' d → Clears k (suc e) (suc i) u c' r' d)
             → Clears (suc k) e i (a ∷ h) c r d
         go (refused z w) y rest = let f : refused z w ≡ done r d = rw (y, inverting) at x in let g : ◌≡◌ {A = ℕ} 0 1 = cc in absurd (omega arith)
         go (done r₁ d₁) y rest =
-            let f : behind (complement (exponent_of nums i) (get_or v (i - 1) 0)) (inverting nums budget room k (suc i) r₁ d₁) ≡ done r d = rw (y, inverting) at x in
+            let f : behind (complement (exponent_of nums i) (get_or v (i - 1) 0)) (inverting nums budget room k (suc i) r₁ d₁) ≡ done r d =
+            rw (y, inverting) at x in
             let g = behind-done _ (inverting nums budget room k (suc i) r₁ d₁) r d f in
             let l : Level P (suc k) i = record { first = omega arith; fits = omega arith } in
             let m = turned-collects i v c r₁ d₁ (omega arith) (omega arith) (deep-normal e (suc k) n 1 i (a ∷ h) (omega arith) s (whole P) p) y in
@@ -192,7 +199,8 @@ module _ (nums : List ℕ) (accepts : judged nums ≡ 0) where
         go false x =
             let y : begun nums budget room v (power i (exponent_of nums i - get_or v (i - 1) 0) ∷ []) c ≡ done r d = rw (x, turned) at e in
             let l : get_or v (i - 1) 0 < prime_of nums = normal-at P n 1 (i - 1) v p (omega arith) in
-            rw (x, turned) (begun-larger v (power i (exponent_of nums i - get_or v (i - 1) 0) ∷ []) c p (record { low = low; high = high; some = omega arith }, tt) y)
+            rw (x, turned)
+            (begun-larger v (power i (exponent_of nums i - get_or v (i - 1) 0) ∷ []) c p (record { low = low; high = high; some = omega arith }, tt) y)
 
     pub inverting-larger : (k i : ℕ) (v : Vector) (c : ℕ) (r : Vector) (d : ℕ) → 1 ≤ i → k + i ≡ suc n → Normal P n 1 v → c ≤ budget
         → inverting nums budget room k i v c ≡ done r d → inverting nums budget' room' k i v c ≡ done r d

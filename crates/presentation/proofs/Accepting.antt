@@ -1,7 +1,10 @@
--- What a judged number tells of an opening, for the functions that make its fields.
---     not_short        numbers that do not get 1 have a header
---     shows-none, shows-all    p and n of numbers that are refused, and of others
---     held_none, held_all  the record stands over the empty part at the beginning of numbers that are refused, and over the very slice of others
+-- What a judged number tells of an opening.
+--
+-- Main results:
+--   `not_short`               numbers that do not get 1 have a header
+--   `shows-none`, `shows-all` p and n of numbers that are refused, and of others
+--   `held_none`, `held_all`   the record stands over the empty part at the beginning of numbers that are refused, and over the very slice
+--                             of others
 use mathlib.Core.Path.{◌≡◌, refl, sym, ap, ◌∙◌}
 use mathlib.Core.Bool.{Bool, true, false}
 use mathlib.Core.List.{List}
@@ -24,7 +27,8 @@ not_short nums h = go (headed nums) refl
     go false e = absurd (h (sym (short nums e)))
 
 -- p and n, from the number: 0 where it says refused, else as the view of the numbers has them
-pub shows-none : (nums : List ℕ) (number : ℕ) (view : View) → number ≡ judged nums → (number ≡ 0 → ⊥) → view.prime.0 ≡ if_accepted false (prime_of nums) → view.rank.0 ≡ if_accepted false (rank_of nums) → Shows nums view
+pub shows-none : (nums : List ℕ) (number : ℕ) (view : View) → number ≡ judged nums → (number ≡ 0 → ⊥)
+    → view.prime.0 ≡ if_accepted false (prime_of nums) → view.rank.0 ≡ if_accepted false (rank_of nums) → Shows nums view
 shows-none nums number view e h p n =
     let f : accepted nums ≡ false = ne_eqb (judged nums) 0 (λ z. h (e ∙ z)) in
     record {

@@ -42,7 +42,8 @@ pub record Empty (lent held : Bor (List ℕ)) : Type 0 where
   pub block : held.ref_ptr.0 ≡ lent.ref_ptr.0
   pub offset : held.ref_ptr.1 ≡ lent.ref_ptr.1
 
--- "The opened presentation stands over the caller's numbers and copies none of them": it lies where they lie, and where they are accepted it is the very slice that was lent.
+-- "The opened presentation stands over the caller's numbers and copies none of them": it lies where they lie, and
+-- where they are accepted it is the very slice that was lent.
 pub record Stands (lent held : Bor (List ℕ)) : Type 0 where
   pub holds : held.now ≡ stood lent.now
   pub block : held.ref_ptr.0 ≡ lent.ref_ptr.0

@@ -1,8 +1,7 @@
 // The opened presentation: a record over the lent numbers, and the calls over it.
 //
-// Opening gives the record and the number. A struct that holds a struct with a lent slice is no form of the language, so the number
-// is a field of the record itself. The record is passed by value: it is copied like a number, holds no `&mut`, and what it owns is
-// known from its value. Each call over it takes the record apart and calls the function on plain parameters on its numbers: that
+// Opening gives the record and the number, which is a field of the record itself. The record is passed by value: it is copied like a
+// number and holds no `&mut`. Each call over it takes the record apart and calls the function on plain parameters on its numbers: that
 // one judges the numbers afresh, and the record's number, p and n are read by no call. A record that was put together by hand, with
 // another p or n, changes nothing.
 #![tactic(auto)]
@@ -104,7 +103,7 @@ pub fn check(presentation: Presentation, budget: u32, work: &mut [u16]) -> Check
     consistency::check(presentation.numbers, budget, work)
 }
 
-// Opens the numbers and collects over what was opened: its parameters are plain, so whoever calls it needs no proof by hand.
+// Opens the numbers and collects over what was opened: its parameters are plain, for callers that keep no record.
 pub fn collect_opened(
     numbers: &[u16],
     vector: &mut [u8],

@@ -22,7 +22,8 @@ use Rattle.collector.specs.Run.{begun}
 use Rattle.collector.specs.Inputs.{vector_right, word_right, word_slots, power_slots}
 use Rattle.collector.specs.Running.{Tells, Settled, Answers}
 use Rattle.collector.specs.Starting.{Held}
-use Rattle.collector.specs.Calls.{collect_call, product_call, depth_call, first_entry, room_of, Left, Leaves, closed, untouched, judged_first, vector_first, word_first, vector_number}
+use Rattle.collector.specs.Calls.{collect_call, product_call, depth_call, first_entry, room_of, closed, vector_number}
+use Rattle.collector.specs.Calls.{Left, Leaves, untouched, judged_first, vector_first, word_first}
 use Rattle.collector.proofs.Holding.{told}
 use Rattle.collector.proofs.Finished.{begun-refuses, closes}
 
@@ -69,13 +70,15 @@ module _ (nums : List ℕ) (v : Vector) (a : Accepts nums v) (budget : ℕ) (ws 
   pub word-refused : (w : List ℕ) → word_right nums w ≡ false → collect_call nums v w budget ws ≡ untouched 8 v ws
   word-refused w f = rw (eq-eqb (judged nums) 0 a.accepts, a.vector-right, f, collect_call, judged_first, vector_first, word_first)
 
-  pub word-accepted : (w : List ℕ) → word_right nums w ≡ true → collect_call nums v w budget ws ≡ closed (begun nums budget (room_of ws) v (word_slots w) 0) v ws
+  pub word-accepted : (w : List ℕ) → word_right nums w ≡ true
+      → collect_call nums v w budget ws ≡ closed (begun nums budget (room_of ws) v (word_slots w) 0) v ws
   word-accepted w f = rw (eq-eqb (judged nums) 0 a.accepts, a.vector-right, f, collect_call, judged_first, vector_first, word_first)
 
   pub right-refused : (u : Vector) → vector_right nums u ≡ false → product_call nums v u budget ws ≡ untouched 7 v ws
   right-refused u f = go-first nums v ws _ a ∙ ap (λ (t : Bool). vector_first t v ws (closed (begun nums budget (room_of ws) v (power_slots 1 u) 0) v ws)) f
 
-  pub right-accepted : (u : Vector) → vector_right nums u ≡ true → product_call nums v u budget ws ≡ closed (begun nums budget (room_of ws) v (power_slots 1 u) 0) v ws
+  pub right-accepted : (u : Vector) → vector_right nums u ≡ true
+      → product_call nums v u budget ws ≡ closed (begun nums budget (room_of ws) v (power_slots 1 u) 0) v ws
   right-accepted u f = go-first nums v ws _ a ∙ ap (λ (t : Bool). vector_first t v ws (closed (begun nums budget (room_of ws) v (power_slots 1 u) 0) v ws)) f
 
 -- What is left where nothing is touched.
@@ -88,7 +91,8 @@ pub leaves-as : {answer : Answer} {left other : Left} {v : Vector} {ws : List �
 leaves-as {answer} {v = v} {ws = ws} e l = subst (λ (x : Left). Leaves x answer v ws) (sym e) l
 
 -- An accepted call: its own vector was copied from v, the starting slots were put, it was settled from them, and it is closed.
-module _ {nums bodies word : List ℕ} {view : View} (ground : Ground nums view bodies word) {slots : List Slot} {ws₁ : List ℕ} {d : ℕ} (held : Held slots ws₁ d) where
+module _ {nums bodies word : List ℕ} {view : View} (ground : Ground nums view bodies word) {slots : List Slot} {ws₁ : List ℕ} {d : ℕ}
+    (held : Held slots ws₁ d) where
   pub call-closes : (v : Vector) (budget : ℕ) (ps : List Piece) (ws : List ℕ) {own own' v' : Vector} {ws₂ ws' : List ℕ} {answer : Answer}
       → Normal (presentation nums) (rank_of nums) 1 v → AllWellFormed (rank_of nums) ps → map (meaning bodies word) slots ≡ ps
       → own ≡ v → length ws₁ ≡ length ws → Settled nums bodies own word budget 0 ws₁ d own' ws₂ answer
@@ -114,6 +118,7 @@ depth-refused nums v k is h = cases (eqb (judged nums) 0) refl (vector_right num
         ap (λ (x : ℕ). record { number = x; depth = 0 }) q ∙ rw (e, f, depth_call)
     cases true e true f = absurd (h (is ∙ sym (number-accepted nums v (eqb-true (judged nums) 0 e) f)))
 
-pub depth-accepted : (nums : List ℕ) (v : Vector) → Accepts nums v → (d : ℕ) → d ≡ first_entry (rank_of nums) 1 v → record { number = 0; depth = d } ≡ depth_call nums v
+pub depth-accepted : (nums : List ℕ) (v : Vector) → Accepts nums v → (d : ℕ) → d ≡ first_entry (rank_of nums) 1 v
+    → record { number = 0; depth = d } ≡ depth_call nums v
 depth-accepted nums v a d is =
     ap (λ (x : ℕ). record { number = 0; depth = x }) is ∙ rw (eq-eqb (judged nums) 0 a.accepts, a.vector-right, depth_call)

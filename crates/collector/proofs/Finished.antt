@@ -6,6 +6,7 @@ use mathlib.Core.List.{List, [], ◌∷◌}
 use mathlib.Core.Bool.{Bool, true, false, cond}
 use Prim.Native.Nat.{ℕ, zero, suc, ◌+◌, ◌-◌, ◌≤◌, ◌<◌}
 use native.Mathlib.Omega.{arith}
+use borrow.Author.Rules.{rules}
 use lib.ListN.{length, get_or, replicate}
 use lib.Dec.{ltb, eqb}
 use borrow.Author.Tests.{eq-eqb, ne_eqb}
@@ -29,7 +30,8 @@ Fine nums budget (done r d) = Normal (presentation nums) (rank_of nums) 1 r × (
 Fine nums budget (refused k d) = k ≡ 0 → ⊥
 
 module _ (nums : List ℕ) (accepts : judged nums ≡ 0) (budget room : ℕ) where
-  runs-fine : {v : Vector} {slots : List Piece} {c : ℕ} {o : Outcome} → Normal (presentation nums) (rank_of nums) 1 v → AllWellFormed (rank_of nums) slots → c ≤ budget
+  runs-fine : {v : Vector} {slots : List Piece} {c : ℕ} {o : Outcome} → Normal (presentation nums) (rank_of nums) 1 v → AllWellFormed (rank_of nums) slots
+      → c ≤ budget
       → Runs nums budget room v slots c o → Fine nums budget o
   runs-fine p w h ends = (p, h)
   runs-fine p w h (stops {v = v} {x = x} {below = below} {c = c} {k = k} a) = refuses nums (budget - c) room v (x ∷ below) k a
@@ -62,7 +64,8 @@ module _ (nums : List ℕ) (accepts : judged nums ≡ 0) (budget room : ℕ) whe
       go true e = rw (e, turned) (p, h)
       go false e =
           let a = normal-at (presentation nums) (rank_of nums) 1 (i - 1) v p (omega arith) in
-          rw (e, turned) (begun-fine v (power i (exponent_of nums i - get_or v (i - 1) 0) ∷ []) c p (record { low = low; high = high; some = omega (arith, a) }, tt) h)
+          rw (e, turned)
+          (begun-fine v (power i (exponent_of nums i - get_or v (i - 1) 0) ∷ []) c p (record { low = low; high = high; some = omega (arith, a) }, tt) h)
 
   behind-refuses : (a : ℕ) (o : Outcome) → ((k d : ℕ) → o ≡ refused k d → k ≡ 0 → ⊥) → (k d : ℕ) → behind a o ≡ refused k d → k ≡ 0 → ⊥
   behind-refuses a (done r c) h k d e = let z : ◌≡◌ {A = ℕ} 0 1 = cc in absurd (omega arith)
@@ -72,7 +75,8 @@ module _ (nums : List ℕ) (accepts : judged nums ≡ 0) (budget room : ℕ) whe
   fine-refuses (done r c) f k d e y = let z : ◌≡◌ {A = ℕ} 0 1 = cc in absurd (omega arith)
   fine-refuses (refused q c) f k d e z = let s : q ≡ k = cc in f (s ∙ z)
 
-  pub begun-refuses : (v : Vector) (slots : List Piece) (c : ℕ) → Normal (presentation nums) (rank_of nums) 1 v → AllWellFormed (rank_of nums) slots → c ≤ budget
+  pub begun-refuses : (v : Vector) (slots : List Piece) (c : ℕ) → Normal (presentation nums) (rank_of nums) 1 v → AllWellFormed (rank_of nums) slots
+      → c ≤ budget
       → (k d : ℕ) → begun nums budget room v slots c ≡ refused k d → k ≡ 0 → ⊥
   begun-refuses v slots c p w h = fine-refuses (begun nums budget room v slots c) (begun-fine v slots c p w h)
 
@@ -84,13 +88,15 @@ module _ (nums : List ℕ) (accepts : judged nums ≡ 0) (budget room : ℕ) whe
       (λ r t n m. inverting-refuses k (suc i) r t (omega arith) (omega arith) n m)
     where
       go : (o : Outcome) → turned nums budget room i v c ≡ o → Fine nums budget o
-          → ((r : Vector) (t : ℕ) → Normal (presentation nums) (rank_of nums) 1 r → t ≤ budget → (q d : ℕ) → inverting nums budget room k (suc i) r t ≡ refused q d → q ≡ 0 → ⊥)
+          → ((r : Vector) (t : ℕ) → Normal (presentation nums) (rank_of nums) 1 r → t ≤ budget
+          → (q d : ℕ) → inverting nums budget room k (suc i) r t ≡ refused q d → q ≡ 0 → ⊥)
           → q ≡ 0 → ⊥
       go (done r t) is f rest = behind-refuses _ (inverting nums budget room k (suc i) r t) (rest r t f.0 f.1) q d (rw (is, inverting) at e)
       go (refused x t) is f rest = let g : ◌≡◌ {A = Outcome} (refused x t) (refused q d) = rw (is, inverting) at e in fine-refuses (refused x t) f q d g
 
 -- An answer of 0 says DONE, and any other the refusal.
-pub tells-done : (o : Outcome) (answer : Answer) (v : Vector) → ((k d : ℕ) → o ≡ refused k d → k ≡ 0 → ⊥) → Tells o answer v → answer.number ≡ 0 → o ≡ done v answer.count
+pub tells-done : (o : Outcome) (answer : Answer) (v : Vector) → ((k d : ℕ) → o ≡ refused k d → k ≡ 0 → ⊥) → Tells o answer v → answer.number ≡ 0
+    → o ≡ done v answer.count
 tells-done (done r c) answer v f t z = let a : answer.count ≡ c = t.1 in let b : v ≡ r = t.2 in cc
 tells-done (refused k c) answer v f t z = absurd (f k c refl (sym t.0 ∙ z))
 
@@ -99,7 +105,8 @@ tells-refused (done r c) answer v t z = absurd (z t.0)
 tells-refused (refused k c) answer v t z = let a : answer.number ≡ k = t.0 in let b : answer.count ≡ c = t.1 in cc
 
 -- The call's close: the vector is replaced where the answer is 0, and the workspace is cleared.
-pub closes : (o : Outcome) (v found : Vector) (ws ws₁ : List ℕ) {answer : Answer} {v' : Vector} {ws' : List ℕ} → ((k d : ℕ) → o ≡ refused k d → k ≡ 0 → ⊥) → Tells o answer found
+pub closes : (o : Outcome) (v found : Vector) (ws ws₁ : List ℕ) {answer : Answer} {v' : Vector} {ws' : List ℕ} → ((k d : ℕ) → o ≡ refused k d → k ≡ 0 → ⊥)
+    → Tells o answer found
     → length ws₁ ≡ length ws → ws' ≡ replicate (length ws₁) 0 → v' ≡ cond (eqb answer.number 0) found v → Leaves (closed o v ws) answer v' ws'
 closes (done r c) v found ws ws₁ {answer} f t kept cleared replaced =
     record {
@@ -108,10 +115,11 @@ closes (done r c) v found ws ws₁ {answer} f t kept cleared replaced =
       vector_is = replaced ∙ ap (λ (b : Bool). cond b found v) (eq-eqb answer.number 0 t.0) ∙ t.2;
       work_is = cleared ∙ ap (λ (n : ℕ). replicate n 0) kept;
     }
-closes (refused k c) v found ws ws₁ {answer} f t kept cleared replaced =
+closes (refused k c) v found ws ws₁ {answer} {ws' = ws'} f t kept cleared replaced =
+    let empty : ws' ≡ replicate (length ws) 0 = cleared ∙ ap (λ (n : ℕ). replicate n 0) kept in
     record {
       number = t.0;
       count = t.1;
       vector_is = replaced ∙ ap (λ (b : Bool). cond b found v) (ne_eqb answer.number 0 (λ z. f k c refl (sym t.0 ∙ z)));
-      work_is = cleared ∙ ap (λ (n : ℕ). replicate n 0) kept;
+      work_is = search (rules, empty);
     }

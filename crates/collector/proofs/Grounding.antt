@@ -87,7 +87,8 @@ module _ (nums : List ℕ) (h : judged nums ≡ 0) where
       (pairs-append (rank_of nums) (take (2 * pairs_before nums e) bodies) (stretch_at nums e) (first-bodies e (omega arith)) (entry-formed e l))
 
   bodies-long : length bodies ≡ 2 * pairs_before nums (entries (rank_of nums))
-  bodies-long = length-drop (bodies_at nums) nums ∙ less (length nums) (bodies_at nums) (2 * pairs_before nums (entries (rank_of nums))) (accepted nums h).measured.size
+  bodies-long = length-drop (bodies_at nums) nums
+      ∙ less (length nums) (bodies_at nums) (2 * pairs_before nums (entries (rank_of nums))) (accepted nums h).measured.size
     where
       less : (l b k : ℕ) → l ≡ b + k → l - b ≡ k
       less l b k e = omega arith

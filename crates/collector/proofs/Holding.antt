@@ -75,7 +75,8 @@ module _ (nums bodies word : List ℕ) {slots : List Slot} {ws : List ℕ} {d : 
       go true e = let h = ltb-true (length ws) (3 * d) e in e ∙ sym (lt-ltb (length ws / 3) (length (map (meaning bodies word) slots)) (omega (arith, h, l)))
       go false e = let h = ltb-false (length ws) (3 * d) e in e ∙ sym (le-ltb (length ws / 3) (length (map (meaning bodies word) slots)) (omega (arith, h, l)))
 
-  pub begun-at : (v : Vector) (budget c : ℕ) → begun_at nums bodies v word budget c ws d ≡ begun nums budget (length ws / 3) v (map (meaning bodies word) slots) c
+  pub begun-at : (v : Vector) (budget c : ℕ)
+      → begun_at nums bodies v word budget c ws d ≡ begun nums budget (length ws / 3) v (map (meaning bodies word) slots) c
   begun-at v budget c = go (ltb (length ws) (3 * d)) refl
     where
       go : (b : Bool) → ltb (length ws) (3 * d) ≡ b
@@ -83,9 +84,11 @@ module _ (nums bodies word : List ℕ) {slots : List Slot} {ws : List ℕ} {d : 
       go true e = rw (e, begun_at) (rw (sym room-alike ∙ e, begun))
       go false e =
           let h = ltb-false (length ws) (3 * d) e in
-          rw (e, begun_at) (rw (sym room-alike ∙ e, begun) (ap (λ (l : List Slot). outcome nums budget (length ws / 3) v (map (meaning bodies word) l) c) (held.fits h)))
+          rw (e, begun_at)
+          (rw (sym room-alike ∙ e, begun) (ap (λ (l : List Slot). outcome nums budget (length ws / 3) v (map (meaning bodies word) l) c) (held.fits h)))
 
-  pub held-stacked : Sources (rank_of nums) bodies word → AllStanding (rank_of nums) bodies word slots → 3 * d ≤ length ws → Stacked (rank_of nums) bodies word ws d
+  pub held-stacked : Sources (rank_of nums) bodies word → AllStanding (rank_of nums) bodies word slots → 3 * d ≤ length ws
+      → Stacked (rank_of nums) bodies word ws d
   held-stacked src all room = record { sources = src; fits = room; slots = subst (AllStanding (rank_of nums) bodies word) (sym (held.fits room)) all }
 
 -- A word's one slot, if it has any pair.
@@ -118,14 +121,17 @@ module _ (nums bodies : List ℕ) (v : Vector) (word : List ℕ) (budget c : ℕ
   fitting h = rw (le-ltb (length ws) (3 * d) h, begun_at)
 
 -- From starting slots that are held, on a workspace of the same length: what settling needs, and what it answers.
-module _ {nums bodies word : List ℕ} {view : View} (ground : Ground nums view bodies word) {slots : List Slot} {ws₁ : List ℕ} {d : ℕ} (held : Held slots ws₁ d) where
-  pub sets-held : {v : Vector} {budget c : ℕ} → AllStanding (rank_of nums) bodies word slots → Normal (presentation nums) (rank_of nums) 1 v → c ≤ budget → d ≤ 1000
+module _ {nums bodies word : List ℕ} {view : View} (ground : Ground nums view bodies word) {slots : List Slot} {ws₁ : List ℕ} {d : ℕ}
+    (held : Held slots ws₁ d) where
+  pub sets-held : {v : Vector} {budget c : ℕ} → AllStanding (rank_of nums) bodies word slots → Normal (presentation nums) (rank_of nums) 1 v → c ≤ budget
+      → d ≤ 1000
       → Sets nums bodies v word budget c ws₁ d
   sets-held all p h few =
       record { normal = p; stacked = held-stacked nums bodies word held ground.sources all; paid = h; few = few }
 
   pub told : {v : Vector} {budget c : ℕ} {ws : List ℕ} {v' : Vector} {ws' : List ℕ} {answer : Answer} → length ws₁ ≡ length ws
-      → Settled nums bodies v word budget c ws₁ d v' ws' answer → Answers (begun nums budget (length ws / 3) v (map (meaning bodies word) slots) c) ws v' ws' answer
+      → Settled nums bodies v word budget c ws₁ d v' ws' answer
+      → Answers (begun nums budget (length ws / 3) v (map (meaning bodies word) slots) c) ws v' ws' answer
   told {v} {budget} {c} {ws} {v'} {ws'} {answer} kept s =
       record {
         kept = s.kept ∙ kept;

@@ -95,7 +95,9 @@ module _ {nums : List ℕ} (accepts : judged nums ≡ 0) {budget : ℕ} {ws₀ :
       ∙ so.same in
       record {
         kept = so.kept;
-        tells = subst (λ (o : Outcome). Tells o (record { number = 0; count = count }) found) (ap (λ (x : Vector). done x count) (sym (append-nil found)) ∙ is) (refl, refl, refl);
+        tells =
+            subst (λ (o : Outcome). Tells o (record { number = 0; count = count }) found)
+            (ap (λ (x : Vector). done x count) (sym (append-nil found)) ∙ is) (refl, refl, refl);
       }
 
   module _ (more : at < rank_of nums) {own' : Vector} {ws' : List ℕ} {answer : Answer}
@@ -112,20 +114,26 @@ module _ {nums : List ℕ} (accepts : judged nums ≡ 0) {budget : ℕ} {ws₀ :
     one_more : rank_of nums - at ≡ suc (rank_of nums - (at + 1))
     one_more = omega arith
 
-    pub sofar-refused : {found' : Vector} → (answer.number ≡ 0 → ⊥) → Answers (inverting nums budget (length ws₀ / 3) (rank_of nums) 1 v₀ 0) ws₀ found' ws' answer
+    pub sofar-refused : {found' : Vector} → (answer.number ≡ 0 → ⊥)
+        → Answers (inverting nums budget (length ws₀ / 3) (rank_of nums) 1 v₀ 0) ws₀ found' ws' answer
     sofar-refused {found'} z =
         let r : turned nums budget (length ws₀ / 3) (at + 1) own count ≡ refused answer.number answer.count = tells-refused _ answer own' tells z in
         let is : refused answer.number answer.count ≡ inverting nums budget (length ws₀ / 3) (rank_of nums) 1 v₀ 0 =
-        ap (ahead (take at found)) (sym (ap (λ (k : ℕ). inverting nums budget (length ws₀ / 3) k (at + 1) own count) one_more ∙ turn-refused nums budget (length ws₀ / 3) (rank_of nums - (at + 1)) (at + 1) own count answer.number answer.count r))
+        ap (ahead (take at found))
+        (sym
+        (ap (λ (k : ℕ). inverting nums budget (length ws₀ / 3) k (at + 1) own count) one_more
+        ∙ turn-refused nums budget (length ws₀ / 3) (rank_of nums - (at + 1)) (at + 1) own count answer.number answer.count r))
         ∙ so.same in
         record { kept = t.kept ∙ so.kept; tells = subst (λ (o : Outcome). Tells o answer found') is (refl, refl) }
 
     is-done : answer.number ≡ 0 → turned nums budget (length ws₀ / 3) (at + 1) own count ≡ done own' answer.count
     is-done z = tells-done _ answer own' (λ k d e y. fine-refuses nums accepts budget (length ws₀ / 3) _ fine k d e y) tells z
 
-    pub sofar-next : answer.number ≡ 0 → Sofar nums budget ws₀ v₀ own' (set found at (complement (exponent_of nums (at + 1)) (get_or own at 0))) ws' answer.count (at + 1)
+    pub sofar-next : answer.number ≡ 0
+        → Sofar nums budget ws₀ v₀ own' (set found at (complement (exponent_of nums (at + 1)) (get_or own at 0))) ws' answer.count (at + 1)
     sofar-next z =
-        let b = complement (exponent_of nums (at + 1)) (get_or own at 0) in
+        let e = exponent_of nums (at + 1) in
+        let b = complement e (get_or own at 0) in
         let k = rank_of nums - (at + 1) in
         let room = length ws₀ / 3 in
         let f = subst (Fine nums budget) (is-done z) fine in
@@ -142,8 +150,11 @@ module _ {nums : List ℕ} (accepts : judged nums ≡ 0) {budget : ℕ} {ws₀ :
               (ap (λ (x : ℕ). take x (set found at b)) (add-one at) ∙ take-suc-set found at b (omega (arith, so.long)))
               ∙ sym (ahead-behind (take at found) b (inverting nums budget room k (at + 1 + 1) own' answer.count))
               ∙ ap (λ (x : ℕ). ahead (take at found) (behind b (inverting nums budget room k x own' answer.count))) (sym two)
-              ∙ ap (λ (x : ℕ). ahead (take at found) (behind (complement (exponent_of nums (at + 1)) (get_or own x 0)) (inverting nums budget room k (suc (at + 1)) own' answer.count))) (sym back)
+              ∙ ap (λ (x : ℕ). ahead (take at found) (behind (complement e (get_or own x 0)) (inverting nums budget room k (suc (at + 1)) own' answer.count)))
+              (sym back)
               ∙ ap (ahead (take at found))
-              (sym (ap (λ (x : ℕ). inverting nums budget room x (at + 1) own count) one_more ∙ turn-done nums budget room k (at + 1) own count own' answer.count (is-done z)))
+              (sym
+              (ap (λ (x : ℕ). inverting nums budget room x (at + 1) own count) one_more
+              ∙ turn-done nums budget room k (at + 1) own count own' answer.count (is-done z)))
               ∙ so.same;
         }

@@ -46,12 +46,14 @@ leads nums left room v slots v' after e p h = go (ltb left (cost (placing_of num
     go true x b y = let q : ◌≡◌ {A = Step} (refuse 9) (lead v' after e p) = rw (x, step) at h in let z : ◌≡◌ {A = ℕ} 0 1 = cc in absurd (omega arith)
     go false x true y = let q : ◌≡◌ {A = Step} (refuse 10) (lead v' after e p) = rw (x, y, step) at h in let z : ◌≡◌ {A = ℕ} 0 1 = cc in absurd (omega arith)
     go false x false y =
-        let q : ◌≡◌ {A = Step} (lead (placing_of nums v slots).vector (slots_after nums v slots) (placing_of nums v slots).exchanges (placing_of nums v slots).powers) (lead v' after e p) = rw (x, y, step) at h in
+        let s = placing_of nums v slots in
+        let q : ◌≡◌ {A = Step} (lead s.vector (slots_after nums v slots) s.exchanges s.powers) (lead v' after e p) = rw (x, y, step) at h in
         record { budgeted = ltb-false _ _ x; fits = ltb-false _ _ y; vector = cc; slots-are = cc; exchanges = cc; powers = cc }
 
 pub step-leads : (nums : List ℕ) (left room : ℕ) (v : Vector) (slots : List Piece)
     → cost (placing_of nums v slots) ≤ left → length (slots_after nums v slots) ≤ room
-    → step nums left room v slots ≡ lead (placing_of nums v slots).vector (slots_after nums v slots) (placing_of nums v slots).exchanges (placing_of nums v slots).powers
+    → step nums left room v slots
+    ≡ lead (placing_of nums v slots).vector (slots_after nums v slots) (placing_of nums v slots).exchanges (placing_of nums v slots).powers
 step-leads nums left room v slots h f = rw (le-ltb left (cost (placing_of nums v slots)) h, le-ltb room (length (slots_after nums v slots)) f, step)
 
 module _ (nums : List ℕ) (budget room : ℕ) where
@@ -88,7 +90,10 @@ module _ (nums : List ℕ) (budget room : ℕ) where
   runs-larger b' r' h f ends = ends
   runs-larger b' r' h f (goes {v = v} {v' = v'} {x = x} {below = below} {slots = t} {c = c} {e = e} {p = p} a y) =
       let l = leads nums (budget - c) room v (x ∷ below) v' t e p a in
-      goes (step-leads nums (b' - c) r' v (x ∷ below) (omega (arith, l.budgeted)) (omega (arith, l.fits)) ∙ sym (step-leads nums (budget - c) room v (x ∷ below) l.budgeted l.fits) ∙ a)
+      goes
+      (step-leads nums (b' - c) r' v (x ∷ below) (omega (arith, l.budgeted)) (omega (arith, l.fits))
+      ∙ sym (step-leads nums (budget - c) room v (x ∷ below) l.budgeted l.fits)
+      ∙ a)
       (runs-larger b' r' h f y)
 
   -- DONE is collecting.
@@ -134,7 +139,8 @@ module _ (nums : List ℕ) (budget room : ℕ) where
         ap length (letters-after nums v slots h w len) ∙ length-append (placing_of nums v slots).puts (letters (taken slots)) in
         let before : length (letters slots) ≡ suc (length (letters (taken slots))) = ap length (letters-taken n slots h w) in
         let tail : Vector = drop (suc (i - 1)) v in
-        let o : Over P (suc i) (spell (suc i) tail) = spell-over P (n - i) (suc i) tail (omega (arith, r.1)) (drop-normal P (suc (i - 1)) (n - i) n 1 (suc i) v (omega (arith, r.0, r.1)) (omega (arith, r.0)) p) in
+        let rest = drop-normal P (suc (i - 1)) (n - i) n 1 (suc i) v (omega (arith, r.0, r.1)) (omega (arith, r.0)) p in
+        let o : Over P (suc i) (spell (suc i) tail) = spell-over P (n - i) (suc i) tail (omega (arith, r.1)) rest in
         let puts : length (conjugates P i (spell (suc i) tail)) ≤ length (spell (suc i) tail) * bound =
         conjugates-length P i bound (spell (suc i) tail) o (λ g a b. conjugate-length P valid (prime_of nums) i g (λ j. omega arith) r.0 a b) in
         let same : length (placing_of nums v slots).puts ≡ length (conjugates P i (spell (suc i) tail)) = ap (λ (x : Placed). length x.puts) is in

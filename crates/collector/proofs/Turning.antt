@@ -37,7 +37,8 @@ refuses nums left room v slots k h z = go (ltb left (cost (placing_of nums v slo
     go true x b y = let q : ◌≡◌ {A = Step} (refuse 9) (refuse k) = rw (x, step) at h in let r : 9 ≡ k = cc in omega arith
     go false x true y = let q : ◌≡◌ {A = Step} (refuse 10) (refuse k) = rw (x, y, step) at h in let r : 10 ≡ k = cc in omega arith
     go false x false y =
-        let q : ◌≡◌ {A = Step} (lead (placing_of nums v slots).vector (slots_after nums v slots) (placing_of nums v slots).exchanges (placing_of nums v slots).powers) (refuse k) = rw (x, y, step) at h in
+        let s = placing_of nums v slots in
+        let q : ◌≡◌ {A = Step} (lead s.vector (slots_after nums v slots) s.exchanges s.powers) (refuse k) = rw (x, y, step) at h in
         let r : ◌≡◌ {A = ℕ} 0 1 = cc in omega arith
 
 says-lead : (s : Step) (r : Placement) (v : Vector) (slots : List Piece) → ((k : ℕ) → s ≡ refuse k → k ≡ 0 → ⊥) → Says s r v slots → r.number ≡ 0
@@ -62,7 +63,8 @@ stops-there [] c h a = absurd (omega arith)
 stops-there (x ∷ below) c h a = stops a
 
 -- What the run has come to: from there the same outcomes as from the start.
-pub record Underway (nums bodies : List ℕ) (v₀ : Vector) (word : List ℕ) (budget c₀ : ℕ) (ws₀ : List ℕ) (d₀ : ℕ) (v : Vector) (ws : List ℕ) (c d : ℕ) : Type 0 where
+pub record Underway (nums bodies : List ℕ) (v₀ : Vector) (word : List ℕ) (budget c₀ : ℕ) (ws₀ : List ℕ) (d₀ : ℕ) (v : Vector) (ws : List ℕ)
+    (c d : ℕ) : Type 0 where
   pub normal : Normal (presentation nums) (rank_of nums) 1 v
   pub stacked : Stacked (rank_of nums) bodies word ws d
   pub paid : c ≤ budget
@@ -117,7 +119,8 @@ module _ {nums bodies word : List ℕ} {view : View} (ground : Ground nums view 
             tells = subst (λ (o : Outcome). Tells o (record { number = r.number; count = c }) v') (sym (outcome-of begins k)) (refl, refl);
           }
 
-      led-to : r.number ≡ 0 → step nums (budget - c) (length ws₀ / 3) v (pieces bodies word ws d) ≡ lead v' (pieces bodies word ws' r.depth) r.exchanges r.powers
+      led-to : r.number ≡ 0
+          → step nums (budget - c) (length ws₀ / 3) v (pieces bodies word ws d) ≡ lead v' (pieces bodies word ws' r.depth) r.exchanges r.powers
       led-to z =
           let a = says-lead _ r v' (pieces bodies word ws' r.depth) (refuses nums (budget - c) (length ws / 3) v (pieces bodies word ws d)) steps.tells z in
           subst (λ (x : ℕ). step nums (budget - c) x v (pieces bodies word ws d) ≡ lead v' (pieces bodies word ws' r.depth) r.exchanges r.powers) room-is a

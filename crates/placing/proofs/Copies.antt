@@ -118,11 +118,13 @@ module _ (nums : List ℕ) (i : ℕ) (v : Vector) (below : List Slot) where
       omega arith
   exchange-grows (suc k) at h =
       let z : at + 1 + k ≡ at + suc k = omega arith in
-      let e : length (exchange_slots nums i (at + 1 + k + 1) (drop (at + 1 + k) v) below) ≡ length (exchange_slots nums i (at + suc k + 1) (drop (at + suc k) v) below) =
+      let e : length (exchange_slots nums i (at + 1 + k + 1) (drop (at + 1 + k) v) below)
+      ≡ length (exchange_slots nums i (at + suc k + 1) (drop (at + suc k) v) below) =
       ap (λ (x : ℕ). length (exchange_slots nums i (x + 1) (drop x v) below)) z in
       let r = exchange-grows k (at + 1) (omega arith) in
       let s = ap length (exchange-more at (omega arith)) in
-      let t = entry-grows (span_of nums (entry_at (rank_of nums) i (at + 1))) (record { 0 = at + 1 }) (exchange_slots nums i (at + 1 + 1) (drop (at + 1) v) below) (get_or v at 0) in
+      let t = entry-grows (span_of nums (entry_at (rank_of nums) i (at + 1))) (record { 0 = at + 1 })
+      (exchange_slots nums i (at + 1 + 1) (drop (at + 1) v) below) (get_or v at 0) in
       omega (arith, e, r, s, t)
 
   -- Entries 0 put nothing.
@@ -176,6 +178,7 @@ module _ (nums : List ℕ) (i : ℕ) (v : Vector) (below : List Slot) where
         → room < 3 * length (exchange_slots nums i (i + 1) (drop i v) below)
     turn-over r room e h =
         let z : i + (at - 1 - i) ≡ at - 1 = omega arith in
-        let t : length (exchange_slots nums i (i + (at - 1 - i) + 1) (drop (i + (at - 1 - i)) v) below) ≡ length (exchange_slots nums i (at - 1 + 1) (drop (at - 1) v) below) =
+        let t : length (exchange_slots nums i (i + (at - 1 - i) + 1) (drop (i + (at - 1 - i)) v) below)
+        ≡ length (exchange_slots nums i (at - 1 + 1) (drop (at - 1) v) below) =
         ap (λ (x : ℕ). length (exchange_slots nums i (x + 1) (drop x v) below)) z in
         omega (arith, exchange-grows (at - 1 - i) i (omega arith), t)

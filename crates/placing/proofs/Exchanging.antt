@@ -43,7 +43,8 @@ met_start nums i v ws d h f =
       fits = f;
     }
 
-module _ {nums : List ℕ} {i : ℕ} {v : Vector} {below : List Slot} {at left : ℕ} {u : Vector} {ws : List ℕ} {d : ℕ} (met : Met nums i v below at left u ws d) where
+module _ {nums : List ℕ} {i : ℕ} {v : Vector} {below : List Slot} {at left : ℕ} {u : Vector} {ws : List ℕ} {d : ℕ}
+    (met : Met nums i v below at left u ws d) where
   pub met-length : length u ≡ length v
   met-length = ap length met.vector ∙ cleared-length v at met.within
 

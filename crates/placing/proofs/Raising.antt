@@ -70,7 +70,9 @@ pub placed-cleared : (P : Presentation) (v : Vector) (i : ℕ) → 1 ≤ i → i
 placed-cleared P v i low high =
     let l = cleared-length v i high in
     placed (cleared i v) i low (omega (arith, l)) P
-    ∙ ap (λ (x : Vector). x ++ (raised (P.exponent i) (get_or (cleared i v) (i - 1) 0) ∷ set_down P (length (cleared i v) - i) i (get_or (cleared i v) (i - 1) 0))) (cleared-front v i low high)
+    ∙ ap (λ (x : Vector).
+    x ++ (raised (P.exponent i) (get_or (cleared i v) (i - 1) 0) ∷ set_down P (length (cleared i v) - i) i (get_or (cleared i v) (i - 1) 0)))
+    (cleared-front v i low high)
     ∙ ap (λ (x : ℕ). take (i - 1) v ++ (raised (P.exponent i) x ∷ set_down P (length (cleared i v) - i) i x)) (cleared-entry v i low high)
     ∙ ap (λ (x : ℕ). take (i - 1) v ++ (raised (P.exponent i) (get_or v (i - 1) 0) ∷ set_down P (x - i) i (get_or v (i - 1) 0))) l
     ∙ sym (placed v i low high P)

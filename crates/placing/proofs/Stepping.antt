@@ -181,7 +181,8 @@ module _ {nums bodies word : List ℕ} {v : Vector} {ws : List ℕ} {d : ℕ} (r
               fits = omega (arith, filled.kept, took.kept, h);
               slots =
                   rw (filled.fits (omega (arith, took.kept, h)))
-                  (standing-exchange bodies word nums ground.accepts ground.bodies_are i (suc i) (drop i v) (stack ws₁ t) in-range.0 (omega arith) below-tail before.slots);
+                  (standing-exchange bodies word nums ground.accepts ground.bodies_are i (suc i) (drop i v) (stack ws₁ t) in-range.0 (omega arith) below-tail
+                  before.slots);
             }
 
         pub passes-after : {v' : Vector} → (3 * r ≤ length ws₁ → v' ≡ cleared i v) → Passes nums bodies word i v ws d v' ws₂ r
@@ -224,7 +225,9 @@ module _ {nums bodies word : List ℕ} {v : Vector} {ws : List ℕ} {d : ℕ} (r
       refused {left} {k} {q} a nonzero number =
           record {
             kept = passes.kept;
-            tells = subst (λ (x : Step). Tells x q v' (pieces bodies word ws' q.depth)) (sym (step-refused nums left room v slots k (a ∙ due-is left) nonzero)) number;
+            tells =
+                subst (λ (x : Step). Tells x q v' (pieces bodies word ws' q.depth))
+                (sym (step-refused nums left room v slots k (a ∙ due-is left) nonzero)) number;
             stands = λ z. absurd (nonzero (sym number ∙ z));
           }
 

@@ -28,6 +28,9 @@ module _ (m e : ℕ) (x : Slot) (ws : List ℕ) (d : ℕ) where
   brought-put h p =
       record { kept = p.kept; depth = more h; stacked = λ room. p.stacked ∙ sym (put m e x (stack ws d) h) }
 
+-- What lessening a power brings about, whichever way it goes.
+pub ruleset lessens = (brought-none, brought-full, brought-put)
+
 -- The same stack, brought about from a workspace of the same length.
 pub brought-from
     : {xs ys : List Slot} {ws ws₁ ws' : List ℕ} {r : ℕ} → xs ≡ ys → length ws₁ ≡ length ws → Brought xs ws₁ ws' r

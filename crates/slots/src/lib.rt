@@ -122,6 +122,7 @@ pub fn peek(bodies: &[u16], word: &[u16], work: &[u16], depth: usize) -> Generat
 
 // "if e > 1 put back (i, e - 1)", on a stack of `depth` slots. Answers how many slots there are then; where the workspace has
 // no room for them, the power is not stored.
+#[tactic(auto, using(crate::proofs::Brings::lessens))]
 fn lessen(work: &mut [u16], depth: usize, i: Generator, e: Exponent) -> usize
     requires { (3 * depth ≤ length work.old) × (i.0 ≤ 40) }
     ensures { Brought (lessened (power_of i) e.0 (stack work.old depth)) work.old work.new result }

@@ -7,6 +7,7 @@ use Rattle.layout.specs.Header.{rank_of}
 use Rattle.layout.specs.Relations.{presentation}
 use Rattle.slots.proofs.Stacks.{stacked-widen}
 use Rattle.placing.specs.Step.{due}
+use Rattle.placing.specs.Ready.{Steps}
 use Rattle.placing.proofs.Clearing.{cleared-entry}
 use Rattle.placing.proofs.Raising.{placed-cleared}
 use Rattle.placing.proofs.Stepping.{long, range-of, due-fits, refused, led}
@@ -21,6 +22,13 @@ number_is left cost after e r k = e ∙ ap (λ (x : ℕ). due left cost x after)
 -- The power uses, by the prime of the numbers.
 powers_are : (v : Vector) (i : ℕ) {p q u : ℕ} → u ≡ power_uses p (get_or v (i - 1) 0) → p ≡ q → u ≡ power_uses q (get_or v (i - 1) 0)
 powers_are v i e f = e ∙ ap (λ (x : ℕ). power_uses x (get_or v (i - 1) 0)) f
+
+-- The same answer, its numbers one by one.
+answered
+    : {nums bodies word v ws v' ws' : List ℕ} {left d n m r e p x y : ℕ} → n ≡ 0 → m ≡ r → x ≡ e → y ≡ p
+    → Steps nums bodies word left v ws d v' ws' (record { number = 0; depth = r; exchanges = e; powers = p })
+    → Steps nums bodies word left v ws d v' ws' (record { number = n; depth = m; exchanges = x; powers = y })
+answered a b f g h = rw (a, b, f, g) h
 
 pub peek-i-requires : goal.peek-i-requires
 peek-i-requires c = (c.requires.ready.some, stacked-widen c.requires.ready.stacked)
@@ -82,10 +90,11 @@ returns c =
     c.raise.ensures
     ∙ ap (λ (x : List ℕ). (place (presentation nums) 1 x i).vector) (c.slots_after-after.ensures.vector fits)
     ∙ placed-cleared (presentation nums) v i r.0 (omega arith) in
-    led c.requires.ready
+    answered (omega arith) (omega arith) (omega arith) (omega arith)
+    (led c.requires.ready
     (record {
       leads = c.peek-i.ensures;
       exchanges = c.tail_sum-sum.ensures.0;
       powers = powers_are v i c.power_uses-powers.ensures.0 c.requires.ground.seen.prime;
     })
-    c.slots_after-after.ensures number c.if-number-ne0.false vector
+    c.slots_after-after.ensures number c.if-number-ne0.false vector)

@@ -3,10 +3,10 @@ use Rattle.slots.proofs.Stores.{pushed}
 use Rattle.slots.proofs.push.Goals as goal
 
 pub returns-in-Power : goal.returns-in-Power
-returns-in-Power c = pushed c.in-Power.is c.requires c.store.ensures
+returns-in-Power c = pushed c.in-Power.is c.requires (cc)
 
 pub returns-in-Relation : goal.returns-in-Relation
-returns-in-Relation c = pushed c.in-Relation.is c.requires c.store-in-Relation.ensures
+returns-in-Relation c = pushed c.in-Relation.is c.requires (cc)
 
 pub returns-in-Input : goal.returns-in-Input
-returns-in-Input c = pushed c.in-Input.is c.requires c.store-in-Input.ensures
+returns-in-Input c = pushed c.in-Input.is c.requires (cc)

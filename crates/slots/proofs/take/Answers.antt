@@ -15,6 +15,10 @@ pub put_back-requires-in-Input-clause-inside : goal.put_back-requires-in-Input-c
 put_back-requires-in-Input-clause-inside c =
     let h = input-readable _ _ (top_of c.requires c.top.ensures c.in-Input.is) in (h.inside, h.high)
 
+pub put_back-requires-in-Input-clause-depth_in_bounds : goal.put_back-requires-in-Input-clause-depth_in_bounds
+put_back-requires-in-Input-clause-depth_in_bounds c =
+    let h = input-readable _ _ (top_of c.requires c.top.ensures c.in-Input.is) in (omega arith, omega arith)
+
 pub returns-in-Power : goal.returns-in-Power
 returns-in-Power c = took _ _ (top_of c.requires c.top.ensures c.in-Power.is) c.lessen.ensures
 

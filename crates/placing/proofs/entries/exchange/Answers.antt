@@ -1,5 +1,5 @@
 -- The turns of the loop and its ends, by the laws of `Met`: what is put for one entry, or that there is no room for it, or that the entry is 0.
-use Rattle.std.proofs.Common.{◌≡◌, ℕ, ◌+◌, ◌-◌, ◌<◌, get_or, ap, ◌∙◌, arith}
+use Rattle.std.proofs.Common.{◌≡◌, ℕ, ◌+◌, ◌-◌, ◌<◌, get_or, ap, ◌∙◌, arith, rules}
 use Rattle.layout.specs.Header.{rank_of, entries}
 use Rattle.layout.specs.Contents.{row_at}
 use Rattle.layout.proofs.Rows.{in_row}
@@ -8,7 +8,7 @@ use Rattle.placing.proofs.Exchanging.{met-more, met-part, met-zero, met-near, me
 use Rattle.placing.proofs.entries.exchange.Goals as goal
 
 pub overflow_sub-left : goal.overflow_sub-left
-overflow_sub-left c = met-part c.loop-left.invariant c.loop-left-test.true
+overflow_sub-left c = met-part c.loop-left.invariant (λ none. omega arith)
 
 pub span_at-span-requires-clause-bound : goal.span_at-span-requires-clause-bound
 span_at-span-requires-clause-bound c =
@@ -16,7 +16,7 @@ span_at-span-requires-clause-bound c =
     let at = c.loop-left.at in
     let i = c.args.i.0 in
     let row : c.row_of-row.result ≡ row_at n i = c.row_of-row.ensures.0 ∙ ap (λ (x : ℕ). row_at x i) c.requires.seen.rank in
-    let more : i < at = met-more c.loop-left.invariant c.loop-left-test.true in
+    let more : i < at = met-more c.loop-left.invariant (λ none. omega arith) in
     let in_a_row : row_at n i + (at - 1 - i) < entries n = in_row n i (at - 1 - i) c.requires.measured.most (omega arith) (omega arith) in
     omega arith
 
@@ -27,7 +27,7 @@ put_entry-d-requires-clause-g_bound c =
     let at = c.loop-left.at in
     let i = c.args.i.0 in
     let row : c.row_of-row.result ≡ row_at n i = c.row_of-row.ensures.0 ∙ ap (λ (x : ℕ). row_at x i) c.requires.seen.rank in
-    let more : i < at = met-more c.loop-left.invariant c.loop-left-test.true in
+    let more : i < at = met-more c.loop-left.invariant (λ none. omega arith) in
     let in_a_row : row_at n i + (at - 1 - i) < entries n = in_row n i (at - 1 - i) c.requires.measured.most (omega arith) (omega arith) in
     let small = start_small nums (c.row_of-row.result + (at - 1 - i)) c.requires.measured c.requires.numbers_len_bound (omega arith) in
     (omega arith, omega (arith, small, c.span_at-span.ensures.start))
@@ -36,13 +36,13 @@ pub overflow_mul-d : goal.overflow_mul-d
 overflow_mul-d c =
     let byte : get_or c.loop-left.vector (c.loop-left.at - 1) 0 < 256 = omega arith in
     let row = c.row_of-row.ensures.0 ∙ ap (λ (x : ℕ). row_at x c.args.i.0) c.requires.seen.rank in
-    let near = met-near c.loop-left.invariant c.loop-left-test.true row c.span_at-span.ensures c.put_entry-d.ensures byte in
+    let near = met-near c.loop-left.invariant (λ none. omega arith) row c.span_at-span.ensures c.put_entry-d.ensures byte in
     omega arith
 
 pub returns-then-work-d-clause-filled : goal.returns-then-work-d-clause-filled
 returns-then-work-d-clause-filled c =
     let met = c.loop-left.invariant in
-    let some = c.loop-left-test.true in
+    let some : c.loop-left.left ≡ 0 → ⊥ = λ none. omega arith in
     let put = c.put_entry-d.ensures in
     let byte : get_or c.loop-left.vector (c.loop-left.at - 1) 0 < 256 = omega arith in
     let row = c.row_of-row.ensures.0 ∙ ap (λ (x : ℕ). row_at x c.args.i.0) c.requires.seen.rank in
@@ -57,10 +57,11 @@ returns-then-work-d-clause-filled c =
 pub loop-left-preserved-else-work-d : goal.loop-left-preserved-else-work-d
 loop-left-preserved-else-work-d c =
     let row = c.row_of-row.ensures.0 ∙ ap (λ (x : ℕ). row_at x c.args.i.0) c.requires.seen.rank in
-    met-put c.loop-left.invariant c.loop-left-test.true row c.span_at-span.ensures c.put_entry-d.ensures (omega arith)
+    let met = met-put c.loop-left.invariant (λ none. omega arith) row c.span_at-span.ensures c.put_entry-d.ensures (omega arith) in
+    search rules
 
 pub loop-left-preserved : goal.loop-left-preserved
-loop-left-preserved c = met-zero c.loop-left.invariant c.loop-left-test.true (omega arith)
+loop-left-preserved c = met-zero c.loop-left.invariant (λ none. omega arith) (omega arith)
 
 pub returns-clause-filled : goal.returns-clause-filled
 returns-clause-filled c =

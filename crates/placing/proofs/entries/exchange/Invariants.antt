@@ -1,5 +1,5 @@
--- `exchange` meets its contract. The invariant: the slots of the entries from at on are put and those entries are 0; what is left of the sum is the sum of the entries
--- between i and at, so that where nothing is left they are 0 as well.
+-- `exchange` meets its contract. The invariant: the slots of the entries from at on are put and those entries are 0; what is left of the sum
+-- is the sum of the entries between i and at, so that where nothing is left they are 0 as well.
 use Rattle.slots.specs.Slots.{stack}
 use Rattle.placing.proofs.Exchanging.{Met}
 use Rattle.placing.proofs.entries.exchange.Given as goal

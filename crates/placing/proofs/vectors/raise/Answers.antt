@@ -13,8 +13,10 @@ use Rattle.placing.proofs.vectors.raise.Goals as goal
 pub returns-then-a-view : goal.returns-then-a-view
 returns-then-a-view c =
     let r = c.requires in
+    let is =
     raised-lower c.args.vector.now c.args.i.0 r.le_i.0 (omega arith) r.vector_value (presentation c.args.numbers.now)
-    (λ q. c.if-a-view.true (omega arith))
+    (λ q. c.if-a-view.true (omega arith)) in
+    cc
 
 pub set_down-requires : goal.set_down-requires
 set_down-requires c =

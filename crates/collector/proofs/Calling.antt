@@ -1,31 +1,32 @@
 -- The calls: what their judging says of the definitions, and how an accepted call closes.
 --
--- Main results: `number-refused`, `number-vector`, `number-accepted`; `call-closes`.
-use mathlib.Core.Path.{◌≡◌, refl, sym, ap, ◌∙◌, subst}
+-- Main results: `number-refused`, `number-vector`, `number-accepted`; `refused-first`, `accepted-first`; `word-refuses`, `word-number`;
+-- `leaves-refused`, `leaves-as`; `call-closes`.
+use mathlib.Core.Path.{◌≡◌, refl, sym, ap, ap₂, ◌∙◌, subst}
 use mathlib.Core.List.{List, map}
-use mathlib.Core.Bool.{Bool, true, false, cond}
-use Prim.Native.Nat.{ℕ, ◌/◌}
+use mathlib.Core.Bool.{Bool, true, false}
+use Prim.Native.Nat.{ℕ, ◌/◌, ◌≤◌}
 use native.Mathlib.Omega.{arith}
-use lib.ListN.{length, replicate}
+use lib.ListN.{length}
 use lib.Dec.{eqb}
 use borrow.Author.Tests.{eq-eqb, ne_eqb, eqb-true, eqb-false}
-use Rattle.theory.specs.Presentation.{Vector, Normal}
-use Rattle.layout.specs.declared.View.{View}
-use Rattle.layout.specs.Header.{rank_of}
+use Rattle.theory.specs.Presentation.{Vector}
 use Rattle.layout.specs.Judged.{judged}
-use Rattle.layout.specs.Relations.{presentation}
 use Rattle.slots.specs.declared.Slot.{Slot}
-use Rattle.slots.specs.Pieces.{Piece, meaning, AllWellFormed}
-use Rattle.placing.specs.Ready.{Ground}
-use Rattle.collector.specs.declared.Answer.{Answer}
-use Rattle.collector.specs.Run.{begun}
+use Rattle.slots.specs.Pieces.{Piece, meaning}
+use Rattle.std.specs.Prelude.{Result, Ok, Err}
+use Rattle.std.specs.Result.{IsErrAnd}
+use Rattle.layout.specs.declared.refusal.Refusal.{Refusal}
+use Rattle.layout.specs.Refusals.{refusal_number}
+use Rattle.collector.specs.declared.Refused.{Refused}
+use Rattle.collector.specs.Given.{number_in, count_in}
+use Rattle.collector.specs.Run.{Outcome, done, refused, begun}
 use Rattle.collector.specs.Inputs.{vector_right, word_right, word_slots, power_slots}
-use Rattle.collector.specs.Running.{Tells, Settled, Answers}
+use Rattle.collector.specs.Running.{begun_at}
 use Rattle.collector.specs.Starting.{Held}
-use Rattle.collector.specs.Calls.{collect_call, product_call, depth_call, first_entry, room_of, closed, vector_number}
+use Rattle.collector.specs.Calls.{collect_call, product_call, room_of, closed, vector_number, word_number}
 use Rattle.collector.specs.Calls.{Left, Leaves, untouched, judged_first, vector_first, word_first}
-use Rattle.collector.proofs.Holding.{told}
-use Rattle.collector.proofs.Finished.{begun-refuses, closes}
+use Rattle.collector.proofs.Holding.{begun-at}
 
 -- The number of the presentation and the vector.
 module _ (nums : List ℕ) (v : Vector) where
@@ -82,43 +83,48 @@ module _ (nums : List ℕ) (v : Vector) (a : Accepts nums v) (budget : ℕ) (ws 
   right-accepted u f = go-first nums v ws _ a ∙ ap (λ (t : Bool). vector_first t v ws (closed (begun nums budget (room_of ws) v (power_slots 1 u) 0) v ws)) f
 
 -- What is left where nothing is touched.
-pub leaves-untouched : {answer : Answer} {left : Left} (k : ℕ) (v : Vector) (ws : List ℕ) → left ≡ untouched k v ws → answer.number ≡ k → answer.count ≡ 0
-    → Leaves left answer v ws
+pub leaves-untouched : {answer : Result ℕ Refused} {left : Left} (k : ℕ) (v : Vector) (ws : List ℕ) → left ≡ untouched k v ws
+    → number_in answer ≡ k → count_in answer ≡ 0 → Leaves left answer v ws
 leaves-untouched {answer} k v ws e n c =
     subst (λ (l : Left). Leaves l answer v ws) (sym e) (record { number = n; count = c; vector_is = refl; work_is = refl })
 
-pub leaves-as : {answer : Answer} {left other : Left} {v : Vector} {ws : List ℕ} → left ≡ other → Leaves other answer v ws → Leaves left answer v ws
+pub leaves-as : {answer : Result ℕ Refused} {left other : Left} {v : Vector} {ws : List ℕ} → left ≡ other → Leaves other answer v ws → Leaves left answer v ws
 leaves-as {answer} {v = v} {ws = ws} e l = subst (λ (x : Left). Leaves x answer v ws) (sym e) l
 
--- An accepted call: its own vector was copied from v, the starting slots were put, it was settled from them, and it is closed.
-module _ {nums bodies word : List ℕ} {view : View} (ground : Ground nums view bodies word) {slots : List Slot} {ws₁ : List ℕ} {d : ℕ}
-    (held : Held slots ws₁ d) where
-  pub call-closes : (v : Vector) (budget : ℕ) (ps : List Piece) (ws : List ℕ) {own own' v' : Vector} {ws₂ ws' : List ℕ} {answer : Answer}
-      → Normal (presentation nums) (rank_of nums) 1 v → AllWellFormed (rank_of nums) ps → map (meaning bodies word) slots ≡ ps
-      → own ≡ v → length ws₁ ≡ length ws → Settled nums bodies own word budget 0 ws₁ d own' ws₂ answer
-      → ws' ≡ replicate (length ws₂) 0 → v' ≡ cond (eqb answer.number 0) own' v
-      → Leaves (closed (begun nums budget (length ws / 3) v ps 0) v ws) answer v' ws'
-  call-closes v budget ps ws {own} {own'} {v'} {ws₂} {ws'} {answer} normal formed means copied kept settled cleared replaced =
-      let a : Answers (begun nums budget (length ws / 3) own (map (meaning bodies word) slots) 0) ws own' ws₂ answer = told ground held kept settled in
-      let t = subst (λ (x : Vector). Tells (begun nums budget (length ws / 3) x (map (meaning bodies word) slots) 0) answer own') copied a.tells in
-      let u = subst (λ (l : List Piece). Tells (begun nums budget (length ws / 3) v l 0) answer own') means t in
-      closes (begun nums budget (length ws / 3) v ps 0) v own' ws ws₂
-      (begun-refuses nums ground.accepts budget (length ws / 3) v ps 0 normal formed (omega arith)) u a.kept cleared replaced
+-- A refusal before anything is touched.
+pub leaves-refused : {answer : Result ℕ Refused} {left : Left} (s : Refusal) (v : Vector) (ws : List ℕ) → left ≡ untouched (refusal_number s) v ws
+    → IsErrAnd answer (λ (r : Refused). (r.refusal ≡ s) × (r.count ≡ 0)) → Leaves left answer v ws
+leaves-refused {answer = Ok c} s v ws e h = absurd h
+leaves-refused {answer = Err r} s v ws e h = leaves-untouched (refusal_number s) v ws e (ap refusal_number h.0) h.1
 
--- Depths.
-pub depth-refused : (nums : List ℕ) (v : Vector) (k : ℕ) → k ≡ vector_number nums v → (k ≡ 0 → ⊥) → record { number = k; depth = 0 } ≡ depth_call nums v
-depth-refused nums v k is h = cases (eqb (judged nums) 0) refl (vector_right nums v) refl
+-- The word's number lets the call go on if it is 0, and refuses it otherwise.
+pub word-refuses : (nums : List ℕ) (v : Vector) (a : Accepts nums v) (budget : ℕ) (ws w : List ℕ) (k : ℕ) → k ≡ word_number nums w → 1 ≤ k
+    → collect_call nums v w budget ws ≡ untouched k v ws
+word-refuses nums v a budget ws w k is some = go (word_right nums w) refl
   where
-    cases : (a : Bool) → eqb (judged nums) 0 ≡ a → (b : Bool) → vector_right nums v ≡ b → record { number = k; depth = 0 } ≡ depth_call nums v
-    cases false e b f =
-        let q : k ≡ judged nums = is ∙ sym (number-refused nums v (eqb-false (judged nums) 0 e)) in
-        ap (λ (x : ℕ). record { number = x; depth = 0 }) q ∙ rw (e, depth_call)
-    cases true e false f =
-        let q : k ≡ 7 = is ∙ sym (number-vector nums v (eqb-true (judged nums) 0 e) f) in
-        ap (λ (x : ℕ). record { number = x; depth = 0 }) q ∙ rw (e, f, depth_call)
-    cases true e true f = absurd (h (is ∙ sym (number-accepted nums v (eqb-true (judged nums) 0 e) f)))
+    go : (b : Bool) → word_right nums w ≡ b → collect_call nums v w budget ws ≡ untouched k v ws
+    go true e = let z : k ≡ 0 = rw (e, word_number) at is in absurd (omega arith)
+    go false e = let z : k ≡ 8 = rw (e, word_number) at is in word-refused nums v a budget ws w e ∙ ap (λ (x : ℕ). untouched x v ws) (sym z)
 
-pub depth-accepted : (nums : List ℕ) (v : Vector) → Accepts nums v → (d : ℕ) → d ≡ first_entry (rank_of nums) 1 v
-    → record { number = 0; depth = d } ≡ depth_call nums v
-depth-accepted nums v a d is =
-    ap (λ (x : ℕ). record { number = 0; depth = x }) is ∙ rw (eq-eqb (judged nums) 0 a.accepts, a.vector-right, depth_call)
+pub word-number : (nums w : List ℕ) → 0 ≡ word_number nums w → word_right nums w ≡ true
+word-number nums w h = go (word_right nums w) refl
+  where
+    go : (b : Bool) → word_right nums w ≡ b → word_right nums w ≡ true
+    go true e = e
+    go false e = let z : ◌≡◌ {A = ℕ} 0 8 = rw (e, word_number) at h in absurd (omega arith)
+
+-- What is left does not depend on what the workspace held.
+closed-alike : (o : Outcome) (v : Vector) (ws ws₁ : List ℕ) → length ws₁ ≡ length ws → closed o v ws₁ ≡ closed o v ws
+closed-alike (done r c) v ws ws₁ e = cc
+closed-alike (refused k c) v ws ws₁ e = cc
+
+-- An accepted call: its starting slots were put on the workspace, and from there it was finished.
+pub call-closes : (nums bodies word : List ℕ) {slots : List Slot} {ws₁ : List ℕ} {d : ℕ} → Held slots ws₁ d
+    → (v : Vector) (budget : ℕ) (ps : List Piece) (ws : List ℕ) {v' : Vector} {ws' : List ℕ} {answer : Result ℕ Refused}
+    → map (meaning bodies word) slots ≡ ps → length ws₁ ≡ length ws
+    → Leaves (closed (begun_at nums bodies v word budget 0 ws₁ d) v ws₁) answer v' ws'
+    → Leaves (closed (begun nums budget (length ws / 3) v ps 0) v ws) answer v' ws'
+call-closes nums bodies word {slots} {ws₁} {d} held v budget ps ws means kept left =
+    let same : begun_at nums bodies v word budget 0 ws₁ d ≡ begun nums budget (length ws / 3) v ps 0 =
+    begun-at nums bodies word held v budget 0 ∙ ap₂ (λ (n : ℕ) (l : List Piece). begun nums budget (n / 3) v l 0) kept means in
+    leaves-as (sym (ap (λ (o : Outcome). closed o v ws₁) same ∙ closed-alike (begun nums budget (length ws / 3) v ps 0) v ws ws₁ kept)) left

@@ -1,30 +1,60 @@
--- The first entry that isn't 0, by index.
+-- The first entry that isn't 0, by its place.
 --
--- Main results: `first-here`, `first-later`, `first-none`.
+-- Main result: `first-is`.
 use mathlib.Core.Path.{◌≡◌, refl, sym, ap, ◌∙◌}
-use mathlib.Core.List.{◌∷◌}
-use Prim.Native.Nat.{ℕ, zero, suc, ◌+◌, ◌≤◌, ◌<◌}
+use mathlib.Core.Bool.{Bool, true, false, cond, not}
+use mathlib.Core.List.{[], ◌∷◌}
+use Prim.Native.Nat.{ℕ, zero, suc, ◌+◌, ◌<◌}
+use native.Mathlib.Omega.{arith}
+use borrow.Author.Tests.{ltb-true, ltb-false, lt-ltb, le-ltb, ne_eqb}
 use native.Mathlib.Numerals.{add-one}
-use lib.ListN.{length, get_or, drop, drop_of_length-le}
+use lib.ListN.{length, get_or, drop}
 use lib.Seq.{drop-cons}
+use lib.Dec.{ltb, eqb}
+use Rattle.std.specs.Prelude.{Option, Some, None}
+use Rattle.std.specs.List.{position_or_len}
 use Rattle.theory.specs.Presentation.{Vector}
 use Rattle.collector.specs.Calls.{first_entry}
 
-module _ (none : ℕ) (v : Vector) (at : ℕ) where
-  entry_first : at < length v → first_entry none (at + 1) (drop at v) ≡ first_entry none (at + 1) (get_or v at 0 ∷ drop (at + 1) v)
-  entry_first h = ap (first_entry none (at + 1)) (drop-cons v at 0 h ∙ ap (λ (k : ℕ). get_or v at 0 ∷ drop k v) (sym (add-one at)))
+abbrev pub some_entry : ℕ → Bool
+some_entry a = not (eqb a 0)
 
-  pub first-here : at < length v → (get_or v at 0 ≡ 0 → ⊥) → first_entry none (at + 1) (drop at v) ≡ at + 1
-  first-here h z = entry_first h ∙ some (get_or v at 0) z
-    where
-      some : (a : ℕ) → (a ≡ 0 → ⊥) → first_entry none (at + 1) (a ∷ drop (at + 1) v) ≡ at + 1
-      some zero f = absurd (f refl)
-      some (suc a) f = refl
+-- The depth that a place stands for.
+abbrev pub depth_at : ℕ → Option ℕ → ℕ
+depth_at none (Some at) = at + 1
+depth_at none None = none
 
-  pub first-later : at < length v → get_or v at 0 ≡ 0 → first_entry none (at + 1) (drop at v) ≡ first_entry none (at + 1 + 1) (drop (at + 1) v)
-  first-later h z =
-      entry_first h ∙ ap (λ (a : ℕ). first_entry none (at + 1) (a ∷ drop (at + 1) v)) z
-      ∙ ap (λ (g : ℕ). first_entry none g (drop (at + 1) v)) (sym (add-one (at + 1)))
+abbrev place : Vector → ℕ
+place v = position_or_len some_entry v
 
-  pub first-none : length v ≤ at → first_entry none (at + 1) (drop at v) ≡ none
-  first-none h = ap (first_entry none (at + 1)) (drop_of_length-le v h)
+first : (none g : ℕ) (v : Vector) → cond (ltb (place v) (length v)) (place v + g) none ≡ first_entry none g v
+first none g [] = refl
+first none g (zero ∷ v) = go (ltb (place v) (length v)) refl (first none (suc g) v)
+  where
+    go : (b : Bool) → ltb (place v) (length v) ≡ b → cond (ltb (place v) (length v)) (place v + suc g) none ≡ first_entry none (suc g) v
+        → cond (ltb (place (zero ∷ v)) (length (zero ∷ v))) (place (zero ∷ v) + g) none ≡ first_entry none (suc g) v
+    go true e r =
+        let l = ltb-true (place v) (length v) e in
+        let same : 1 + place v + g ≡ place v + suc g = omega arith in
+        ap (λ (b : Bool). cond b (1 + place v + g) none) (lt-ltb (1 + place v) (suc (length v)) (omega arith)) ∙ same ∙ rw e at r
+    go false e r =
+        let l = ltb-false (place v) (length v) e in
+        ap (λ (b : Bool). cond b (1 + place v + g) none) (le-ltb (1 + place v) (suc (length v)) (omega arith)) ∙ rw e at r
+first none g (suc a ∷ v) =
+    let at : Bool → ℕ = λ (b : Bool). cond (not (not b)) (1 + place v) 0 in
+    let some : suc a ≡ 0 → ⊥ = λ z. omega arith in
+    let same : 0 + g ≡ g = omega arith in
+    ap (λ (b : Bool). cond (ltb (at b) (suc (length v))) (at b + g) none) (ne_eqb (suc a) 0 some)
+    ∙ ap (λ (b : Bool). cond b (0 + g) none) (lt-ltb 0 (suc (length v)) (omega arith)) ∙ same
+
+-- One entry, by index.
+entry_first : (none : ℕ) (v : Vector) (at : ℕ) → at < length v
+    → first_entry none (at + 1) (drop at v) ≡ first_entry none (at + 1) (get_or v at 0 ∷ drop (at + 1) v)
+entry_first none v at h = ap (first_entry none (at + 1)) (drop-cons v at 0 h ∙ ap (λ (k : ℕ). get_or v at 0 ∷ drop k v) (sym (add-one at)))
+
+pub first-is : (none : ℕ) (v : Vector) (r : Option ℕ) → r ≡ cond (ltb (place v) (length v)) (Some (place v)) None → depth_at none r ≡ first_entry none 1 v
+first-is none v r e = ap (depth_at none) e ∙ go (ltb (place v) (length v)) ∙ first none 1 v
+  where
+    go : (b : Bool) → depth_at none (cond b (Some (place v)) None) ≡ cond b (place v + 1) none
+    go true = refl
+    go false = refl

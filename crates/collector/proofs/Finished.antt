@@ -1,25 +1,32 @@
 -- What an outcome is good for: DONE with a normal vector and a count within the budget, or a number that is not 0.
 --
--- Main results: `begun-fine`, `turned-fine`, `inverting-fine`; `tells-done`, `tells-refused`; `closes`.
+-- Main results: `begun-fine`, `turned-fine`, `inverting-fine`; `tells-done`, `tells-refused`; `closes`, `settled-closes`.
 use mathlib.Core.Path.{◌≡◌, refl, sym, ap, ◌∙◌}
 use mathlib.Core.List.{List, [], ◌∷◌}
 use mathlib.Core.Bool.{Bool, true, false, cond}
-use Prim.Native.Nat.{ℕ, zero, suc, ◌+◌, ◌-◌, ◌≤◌, ◌<◌}
+use Prim.Native.Nat.{ℕ, zero, suc, ◌+◌, ◌-◌, ◌*◌, ◌/◌, ◌≤◌, ◌<◌}
 use native.Mathlib.Omega.{arith}
 use borrow.Author.Rules.{rules}
 use lib.ListN.{length, get_or, replicate}
 use lib.Dec.{ltb, eqb}
-use borrow.Author.Tests.{eq-eqb, ne_eqb}
+use borrow.Author.Tests.{eq-eqb, ne_eqb, ltb-false}
 use Rattle.theory.specs.Presentation.{Vector, Normal}
 use Rattle.layout.specs.Header.{rank_of, exponent_of}
 use Rattle.layout.specs.Judged.{judged}
 use Rattle.layout.specs.Relations.{presentation}
 use Rattle.layout.proofs.Valid.{valid}
-use Rattle.slots.specs.Pieces.{Piece, power, AllWellFormed}
+use Rattle.slots.specs.Pieces.{Piece, power, pieces, Pairs, AllWellFormed}
+use Rattle.slots.specs.Slots.{stack}
+use Rattle.slots.proofs.Stacks.{all-well-formed}
+use Rattle.layout.specs.Contents.{stretch_of}
+use Rattle.layout.specs.declared.View.{View}
+use Rattle.placing.specs.Ready.{Ground}
 use Rattle.theory.proofs.Arrays.{normal-at}
-use Rattle.collector.specs.declared.Answer.{Answer}
+use Rattle.std.specs.Prelude.{Result}
+use Rattle.collector.specs.declared.Refused.{Refused}
+use Rattle.collector.specs.Given.{number_in, count_in}
 use Rattle.collector.specs.Run.{Outcome, done, refused, Runs, ends, stops, goes, begun}
-use Rattle.collector.specs.Running.{Tells}
+use Rattle.collector.specs.Running.{Tells, begun_at, Sets, Settled}
 use Rattle.collector.specs.Calls.{behind, turned, inverting, closed, Leaves}
 use Rattle.collector.proofs.Grounding.{relation-formed}
 use Rattle.collector.proofs.Outcomes.{leads, leads-normal, leads-formed, runs-outcome}
@@ -30,6 +37,9 @@ Fine nums budget (done r d) = Normal (presentation nums) (rank_of nums) 1 r × (
 Fine nums budget (refused k d) = k ≡ 0 → ⊥
 
 module _ (nums : List ℕ) (accepts : judged nums ≡ 0) (budget room : ℕ) where
+  paired : (i g : ℕ) → 1 ≤ i → i < g → g ≤ rank_of nums → Pairs (rank_of nums) (stretch_of nums i g)
+  paired i g l m f = relation-formed nums accepts i g l (omega arith) f
+
   runs-fine : {v : Vector} {slots : List Piece} {c : ℕ} {o : Outcome} → Normal (presentation nums) (rank_of nums) 1 v → AllWellFormed (rank_of nums) slots
       → c ≤ budget
       → Runs nums budget room v slots c o → Fine nums budget o
@@ -41,17 +51,11 @@ module _ (nums : List ℕ) (accepts : judged nums ≡ 0) (budget room : ℕ) whe
       (leads-normal nums budget room (valid nums accepts) paired p l)
       (leads-formed nums budget room (valid nums accepts) paired (omega arith) p w l)
       (omega (arith, l.budgeted, l.exchanges, l.powers, h)) y
-    where
-      paired : (i g : ℕ) → 1 ≤ i → i < g → g ≤ rank_of nums → Rattle.slots.specs.Pieces.Pairs (rank_of nums) (Rattle.layout.specs.Contents.stretch_of nums i g)
-      paired i g l m f = relation-formed nums accepts i g l (omega arith) f
 
   pub begun-fine : (v : Vector) (slots : List Piece) (c : ℕ) → Normal (presentation nums) (rank_of nums) 1 v → AllWellFormed (rank_of nums) slots → c ≤ budget
       → Fine nums budget (begun nums budget room v slots c)
   begun-fine v slots c p w h = go (ltb room (length slots)) refl
     where
-      paired : (i g : ℕ) → 1 ≤ i → i < g → g ≤ rank_of nums → Rattle.slots.specs.Pieces.Pairs (rank_of nums) (Rattle.layout.specs.Contents.stretch_of nums i g)
-      paired i g l m f = relation-formed nums accepts i g l (omega arith) f
-
       go : (b : Bool) → ltb room (length slots) ≡ b → Fine nums budget (begun nums budget room v slots c)
       go true e = rw (e, begun) (λ z. omega arith)
       go false e = rw (e, begun) (runs-fine p w h (runs-outcome nums budget room (valid nums accepts) paired v slots c p w))
@@ -95,24 +99,25 @@ module _ (nums : List ℕ) (accepts : judged nums ≡ 0) (budget room : ℕ) whe
       go (refused x t) is f rest = let g : ◌≡◌ {A = Outcome} (refused x t) (refused q d) = rw (is, inverting) at e in fine-refuses (refused x t) f q d g
 
 -- An answer of 0 says DONE, and any other the refusal.
-pub tells-done : (o : Outcome) (answer : Answer) (v : Vector) → ((k d : ℕ) → o ≡ refused k d → k ≡ 0 → ⊥) → Tells o answer v → answer.number ≡ 0
-    → o ≡ done v answer.count
-tells-done (done r c) answer v f t z = let a : answer.count ≡ c = t.1 in let b : v ≡ r = t.2 in cc
+pub tells-done : (o : Outcome) (answer : Result ℕ Refused) (v : Vector) → ((k d : ℕ) → o ≡ refused k d → k ≡ 0 → ⊥) → Tells o answer v
+    → number_in answer ≡ 0 → o ≡ done v (count_in answer)
+tells-done (done r c) answer v f t z = let a : count_in answer ≡ c = t.1 in let b : v ≡ r = t.2 in cc
 tells-done (refused k c) answer v f t z = absurd (f k c refl (sym t.0 ∙ z))
 
-pub tells-refused : (o : Outcome) (answer : Answer) (v : Vector) → Tells o answer v → (answer.number ≡ 0 → ⊥) → o ≡ refused answer.number answer.count
+pub tells-refused : (o : Outcome) (answer : Result ℕ Refused) (v : Vector) → Tells o answer v → (number_in answer ≡ 0 → ⊥)
+    → o ≡ refused (number_in answer) (count_in answer)
 tells-refused (done r c) answer v t z = absurd (z t.0)
-tells-refused (refused k c) answer v t z = let a : answer.number ≡ k = t.0 in let b : answer.count ≡ c = t.1 in cc
+tells-refused (refused k c) answer v t z = let a : number_in answer ≡ k = t.0 in let b : count_in answer ≡ c = t.1 in cc
 
 -- The call's close: the vector is replaced where the answer is 0, and the workspace is cleared.
-pub closes : (o : Outcome) (v found : Vector) (ws ws₁ : List ℕ) {answer : Answer} {v' : Vector} {ws' : List ℕ} → ((k d : ℕ) → o ≡ refused k d → k ≡ 0 → ⊥)
-    → Tells o answer found
-    → length ws₁ ≡ length ws → ws' ≡ replicate (length ws₁) 0 → v' ≡ cond (eqb answer.number 0) found v → Leaves (closed o v ws) answer v' ws'
+pub closes : (o : Outcome) (v found : Vector) (ws ws₁ : List ℕ) {answer : Result ℕ Refused} {v' : Vector} {ws' : List ℕ}
+    → ((k d : ℕ) → o ≡ refused k d → k ≡ 0 → ⊥) → Tells o answer found
+    → length ws₁ ≡ length ws → ws' ≡ replicate (length ws₁) 0 → v' ≡ cond (eqb (number_in answer) 0) found v → Leaves (closed o v ws) answer v' ws'
 closes (done r c) v found ws ws₁ {answer} f t kept cleared replaced =
     record {
       number = t.0;
       count = t.1;
-      vector_is = replaced ∙ ap (λ (b : Bool). cond b found v) (eq-eqb answer.number 0 t.0) ∙ t.2;
+      vector_is = replaced ∙ ap (λ (b : Bool). cond b found v) (eq-eqb (number_in answer) 0 t.0) ∙ t.2;
       work_is = cleared ∙ ap (λ (n : ℕ). replicate n 0) kept;
     }
 closes (refused k c) v found ws ws₁ {answer} {ws' = ws'} f t kept cleared replaced =
@@ -120,6 +125,29 @@ closes (refused k c) v found ws ws₁ {answer} {ws' = ws'} f t kept cleared repl
     record {
       number = t.0;
       count = t.1;
-      vector_is = replaced ∙ ap (λ (b : Bool). cond b found v) (ne_eqb answer.number 0 (λ z. f k c refl (sym t.0 ∙ z)));
+      vector_is = replaced ∙ ap (λ (b : Bool). cond b found v) (ne_eqb (number_in answer) 0 (λ z. f k c refl (sym t.0 ∙ z)));
       work_is = search (rules, empty);
     }
+
+-- From starting slots: the outcome is that of the definition, and closing hands it out.
+module _ {nums bodies word : List ℕ} {view : View} (ground : Ground nums view bodies word) {v : Vector} {budget c : ℕ} {ws : List ℕ} {d : ℕ}
+    (sets : Sets nums bodies v word budget c ws d) where
+  begun_at-fine : Fine nums budget (begun_at nums bodies v word budget c ws d)
+  begun_at-fine = go (ltb (length ws) (3 * d)) refl
+    where
+      go : (b : Bool) → ltb (length ws) (3 * d) ≡ b → Fine nums budget (begun_at nums bodies v word budget c ws d)
+      go true e = rw (e, begun_at) (λ z. omega arith)
+      go false e =
+          let st = sets.stacked (ltb-false (length ws) (3 * d) e) in
+          let formed : AllWellFormed (rank_of nums) (pieces bodies word ws d) = all-well-formed bodies word (rank_of nums) (stack ws d) st.sources st.slots in
+          rw (e, begun_at)
+          (runs-fine nums ground.accepts budget (length ws / 3) sets.normal formed sets.paid
+          (runs-outcome nums budget (length ws / 3) (valid nums ground.accepts) (paired nums ground.accepts budget (length ws / 3)) v
+          (pieces bodies word ws d) c sets.normal formed))
+
+  pub settled-closes : {own v' : Vector} {ws₁ ws' : List ℕ} {answer : Result ℕ Refused} → Settled nums bodies v word budget c ws d own ws₁ answer
+      → ws' ≡ replicate (length ws₁) 0 → v' ≡ cond (eqb (number_in answer) 0) own v
+      → Leaves (closed (begun_at nums bodies v word budget c ws d) v ws) answer v' ws'
+  settled-closes {own} {ws₁ = ws₁} s cleared replaced =
+      let o = begun_at nums bodies v word budget c ws d in
+      closes o v own ws ws₁ (fine-refuses nums ground.accepts budget (length ws / 3) o begun_at-fine) s.tells s.kept cleared replaced

@@ -1,30 +1,26 @@
 -- The loop of the inverse: what it keeps from generator to generator.
 --
--- Main results: `Sofar`, `sofar-start`, `sofar-next`, `sofar-refused`, `sofar-end`.
-use mathlib.Core.Path.{◌≡◌, refl, sym, ap, ap₂, ◌∙◌, subst}
+-- Main results: `Sofar`, `sofar-next`, `sofar-refused`, `sofar-end`.
+use mathlib.Core.Path.{◌≡◌, refl, sym, ap, ◌∙◌, subst}
 use mathlib.Core.List.{List, [], ◌∷◌, ◌++◌, append_assoc, append-nil}
-use Prim.Native.Nat.{ℕ, zero, suc, ◌+◌, ◌-◌, ◌/◌, ◌≤◌, ◌<◌}
+use Prim.Native.Nat.{ℕ, suc, ◌+◌, ◌-◌, ◌/◌, ◌≤◌, ◌<◌}
 use native.Mathlib.Omega.{arith}
 use native.Mathlib.Numerals.{add-one}
 use lib.ListN.{length, get_or, set, take, length-set}
 use lib.Seq.{take-suc-set, take_all}
+use borrow.Author.Tests.{eq-eqb}
 use Rattle.theory.specs.Presentation.{Vector, Normal}
 use Rattle.theory.specs.Placing.{complement}
-use Rattle.layout.specs.declared.View.{View}
-use Rattle.layout.specs.Header.{Seen, rank_of, exponent_of}
+use Rattle.layout.specs.Header.{rank_of, exponent_of}
 use Rattle.layout.specs.Judged.{judged}
 use Rattle.layout.specs.Relations.{presentation}
-use Rattle.collector.specs.declared.Answer.{Answer}
-use borrow.Author.Tests.{eq-eqb, ne_eqb}
-use Rattle.slots.specs.Pieces.{power}
-use Rattle.collector.specs.Run.{Outcome, done, refused, begun}
+use Rattle.std.specs.Prelude.{Result, Ok}
+use Rattle.collector.specs.declared.Refused.{Refused}
+use Rattle.collector.specs.Given.{number_in, count_in}
+use Rattle.collector.specs.Run.{Outcome, done, refused}
 use Rattle.collector.specs.Calls.{behind, turned, inverting}
 use Rattle.collector.specs.Running.{Tells, Answers}
 use Rattle.collector.proofs.Finished.{Fine, fine-refuses, turned-fine, tells-done, tells-refused}
-
-pub complement-some : (e a : ℕ) → (a ≡ 0 → ⊥) → e - a ≡ complement e a
-complement-some e zero h = absurd (h refl)
-complement-some e (suc a) h = refl
 
 -- The entries found before those that follow.
 abbrev ahead : Vector → Outcome → Outcome
@@ -39,18 +35,11 @@ ahead_none : (o : Outcome) → ahead [] o ≡ o
 ahead_none (done r c) = refl
 ahead_none (refused k c) = refl
 
--- The two cases of an entry, at the index before its generator.
+-- The case of an entry 0, at the index before its generator.
 pub turned_zero : (nums : List ℕ) (budget room : ℕ) (v : Vector) (at c : ℕ) → get_or v at 0 ≡ 0 → turned nums budget room (at + 1) v c ≡ done v c
 turned_zero nums budget room v at c z =
     let b : at + 1 - 1 ≡ at = omega arith in
     rw (eq-eqb (get_or v (at + 1 - 1) 0) 0 (ap (λ (x : ℕ). get_or v x 0) b ∙ z), turned)
-
-pub turned-some : (nums : List ℕ) (view : View) (budget room : ℕ) (v : Vector) (at c : ℕ) → Seen nums view → (get_or v at 0 ≡ 0 → ⊥)
-    → turned nums budget room (at + 1) v c ≡ begun nums budget room v (power (at + 1) (view.prime.0 - get_or v at 0) ∷ []) c
-turned-some nums view budget room v at c seen z =
-    let b : at + 1 - 1 ≡ at = omega arith in
-    rw (ne_eqb (get_or v (at + 1 - 1) 0) 0 (λ q. z (sym (ap (λ (x : ℕ). get_or v x 0) b) ∙ q)), turned)
-    (ap₂ (λ (p x : ℕ). begun nums budget room v (power (at + 1) (p - get_or v x 0) ∷ []) c) (sym seen.prime) b)
 
 module _ (nums : List ℕ) (budget room k i : ℕ) (v : Vector) (c : ℕ) where
   turn-refused : (q d : ℕ) → turned nums budget room i v c ≡ refused q d → inverting nums budget room (suc k) i v c ≡ refused q d
@@ -70,22 +59,9 @@ pub record Sofar (nums : List ℕ) (budget : ℕ) (ws₀ : List ℕ) (v₀ : Vec
   pub same : ahead (take at found) (inverting nums budget (length ws₀ / 3) (rank_of nums - at) (at + 1) own count)
       ≡ inverting nums budget (length ws₀ / 3) (rank_of nums) 1 v₀ 0
 
-pub sofar-start : (nums : List ℕ) (budget : ℕ) (ws : List ℕ) (v found : Vector) → Normal (presentation nums) (rank_of nums) 1 v → length found ≡ rank_of nums
-    → Sofar nums budget ws v v found ws 0 0
-sofar-start nums budget ws v found p l =
-    let z : rank_of nums - 0 ≡ rank_of nums = omega arith in
-    record {
-      normal = p;
-      paid = omega arith;
-      kept = refl;
-      long = l;
-      within = omega arith;
-      same = ahead_none _ ∙ ap (λ (k : ℕ). inverting nums budget (length ws / 3) k 1 v 0) z;
-    }
-
 module _ {nums : List ℕ} (accepts : judged nums ≡ 0) {budget : ℕ} {ws₀ : List ℕ} {v₀ own found : Vector} {ws : List ℕ} {count at : ℕ}
     (so : Sofar nums budget ws₀ v₀ own found ws count at) where
-  pub sofar-end : at ≡ rank_of nums → Answers (inverting nums budget (length ws₀ / 3) (rank_of nums) 1 v₀ 0) ws₀ found ws (record { number = 0; count = count })
+  pub sofar-end : at ≡ rank_of nums → Answers (inverting nums budget (length ws₀ / 3) (rank_of nums) 1 v₀ 0) ws₀ found ws (Ok count)
   sofar-end e =
       let z : rank_of nums - at ≡ 0 = omega arith in
       let whole : take at found ≡ found = take_all at found (omega (arith, so.long)) in
@@ -96,11 +72,11 @@ module _ {nums : List ℕ} (accepts : judged nums ≡ 0) {budget : ℕ} {ws₀ :
       record {
         kept = so.kept;
         tells =
-            subst (λ (o : Outcome). Tells o (record { number = 0; count = count }) found)
+            subst (λ (o : Outcome). Tells o (Ok count) found)
             (ap (λ (x : Vector). done x count) (sym (append-nil found)) ∙ is) (refl, refl, refl);
       }
 
-  module _ (more : at < rank_of nums) {own' : Vector} {ws' : List ℕ} {answer : Answer}
+  module _ (more : at < rank_of nums) {own' : Vector} {ws' : List ℕ} {answer : Result ℕ Refused}
       (t : Answers (turned nums budget (length ws / 3) (at + 1) own count) ws own' ws' answer) where
     room-is : length ws / 3 ≡ length ws₀ / 3
     room-is = ap (λ (x : ℕ). x / 3) so.kept
@@ -114,28 +90,29 @@ module _ {nums : List ℕ} (accepts : judged nums ≡ 0) {budget : ℕ} {ws₀ :
     one_more : rank_of nums - at ≡ suc (rank_of nums - (at + 1))
     one_more = omega arith
 
-    pub sofar-refused : {found' : Vector} → (answer.number ≡ 0 → ⊥)
+    pub sofar-refused : {found' : Vector} → (number_in answer ≡ 0 → ⊥)
         → Answers (inverting nums budget (length ws₀ / 3) (rank_of nums) 1 v₀ 0) ws₀ found' ws' answer
     sofar-refused {found'} z =
-        let r : turned nums budget (length ws₀ / 3) (at + 1) own count ≡ refused answer.number answer.count = tells-refused _ answer own' tells z in
-        let is : refused answer.number answer.count ≡ inverting nums budget (length ws₀ / 3) (rank_of nums) 1 v₀ 0 =
+        let r : turned nums budget (length ws₀ / 3) (at + 1) own count ≡ refused (number_in answer) (count_in answer) = tells-refused _ answer own' tells z in
+        let is : refused (number_in answer) (count_in answer) ≡ inverting nums budget (length ws₀ / 3) (rank_of nums) 1 v₀ 0 =
         ap (ahead (take at found))
         (sym
         (ap (λ (k : ℕ). inverting nums budget (length ws₀ / 3) k (at + 1) own count) one_more
-        ∙ turn-refused nums budget (length ws₀ / 3) (rank_of nums - (at + 1)) (at + 1) own count answer.number answer.count r))
+        ∙ turn-refused nums budget (length ws₀ / 3) (rank_of nums - (at + 1)) (at + 1) own count (number_in answer) (count_in answer) r))
         ∙ so.same in
         record { kept = t.kept ∙ so.kept; tells = subst (λ (o : Outcome). Tells o answer found') is (refl, refl) }
 
-    is-done : answer.number ≡ 0 → turned nums budget (length ws₀ / 3) (at + 1) own count ≡ done own' answer.count
+    is-done : number_in answer ≡ 0 → turned nums budget (length ws₀ / 3) (at + 1) own count ≡ done own' (count_in answer)
     is-done z = tells-done _ answer own' (λ k d e y. fine-refuses nums accepts budget (length ws₀ / 3) _ fine k d e y) tells z
 
-    pub sofar-next : answer.number ≡ 0
-        → Sofar nums budget ws₀ v₀ own' (set found at (complement (exponent_of nums (at + 1)) (get_or own at 0))) ws' answer.count (at + 1)
+    pub sofar-next : number_in answer ≡ 0
+        → Sofar nums budget ws₀ v₀ own' (set found at (complement (exponent_of nums (at + 1)) (get_or own at 0))) ws' (count_in answer) (at + 1)
     sofar-next z =
         let e = exponent_of nums (at + 1) in
         let b = complement e (get_or own at 0) in
         let k = rank_of nums - (at + 1) in
         let room = length ws₀ / 3 in
+        let rest = inverting nums budget room k (suc (at + 1)) own' (count_in answer) in
         let f = subst (Fine nums budget) (is-done z) fine in
         let two : suc (at + 1) ≡ at + 1 + 1 = omega arith in
         let back : at + 1 - 1 ≡ at = omega arith in
@@ -146,15 +123,15 @@ module _ {nums : List ℕ} (accepts : judged nums ≡ 0) {budget : ℕ} {ws₀ :
           long = length-set found at b ∙ so.long;
           within = omega arith;
           same =
-              ap (λ (x : Vector). ahead x (inverting nums budget room k (at + 1 + 1) own' answer.count))
+              ap (λ (x : Vector). ahead x (inverting nums budget room k (at + 1 + 1) own' (count_in answer)))
               (ap (λ (x : ℕ). take x (set found at b)) (add-one at) ∙ take-suc-set found at b (omega (arith, so.long)))
-              ∙ sym (ahead-behind (take at found) b (inverting nums budget room k (at + 1 + 1) own' answer.count))
-              ∙ ap (λ (x : ℕ). ahead (take at found) (behind b (inverting nums budget room k x own' answer.count))) (sym two)
-              ∙ ap (λ (x : ℕ). ahead (take at found) (behind (complement e (get_or own x 0)) (inverting nums budget room k (suc (at + 1)) own' answer.count)))
+              ∙ sym (ahead-behind (take at found) b (inverting nums budget room k (at + 1 + 1) own' (count_in answer)))
+              ∙ ap (λ (x : ℕ). ahead (take at found) (behind b (inverting nums budget room k x own' (count_in answer)))) (sym two)
+              ∙ ap (λ (x : ℕ). ahead (take at found) (behind (complement e (get_or own x 0)) rest))
               (sym back)
               ∙ ap (ahead (take at found))
               (sym
               (ap (λ (x : ℕ). inverting nums budget room x (at + 1) own count) one_more
-              ∙ turn-done nums budget room k (at + 1) own count own' answer.count (is-done z)))
+              ∙ turn-done nums budget room k (at + 1) own count own' (count_in answer) (is-done z)))
               ∙ so.same;
         }

@@ -2,6 +2,8 @@
 pub mod Looking
 pub mod Judging
 pub mod Grounding
+pub mod Answered
+pub mod Once
 pub mod Outcomes
 pub mod Turning
 pub mod Holding

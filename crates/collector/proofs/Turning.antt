@@ -1,6 +1,6 @@
 -- One turn of the run: what a placing's answer says of the step, and what it leaves to be run.
 --
--- Main results: `Started`, `started`, `turn_on`, `turn-off`, `turn_end`, `turn-falls`.
+-- Main results: `Underway`, `turn_on`, `turn-off`, `turn_end`, `turn-falls`.
 use mathlib.Core.Path.{◌≡◌, refl, sym, ap, ◌∙◌, subst}
 use mathlib.Core.List.{List, [], ◌∷◌}
 use mathlib.Core.Bool.{Bool, true, false}
@@ -10,7 +10,6 @@ use lib.ListN.{length}
 use lib.Dec.{ltb}
 use Rattle.theory.specs.Presentation.{Vector, Normal}
 use Rattle.theory.specs.Placing.{cost}
-use Rattle.theory.proofs.Words.{normal-length}
 use Rattle.layout.specs.declared.View.{View}
 use Rattle.layout.specs.Header.{prime_of, rank_of}
 use Rattle.layout.specs.Contents.{stretch_of}
@@ -20,6 +19,10 @@ use Rattle.slots.specs.Slots.{stack}
 use Rattle.slots.specs.Pieces.{Piece, pieces, letters, Pairs, AllWellFormed}
 use Rattle.slots.specs.Stacked.{Stacked}
 use Rattle.slots.proofs.Stacks.{length-pieces, all-well-formed}
+use Rattle.std.specs.Prelude.{Ok, Err}
+use Rattle.layout.specs.declared.refusal.Refusal.{Refusal}
+use Rattle.layout.specs.Refusals.{refusal_number}
+use Rattle.layout.proofs.Refusals.{number-some}
 use Rattle.placing.specs.declared.Placement.{Placement}
 use Rattle.placing.specs.Step.{Step, refuse, lead, step, placing_of, slots_after}
 use Rattle.placing.specs.Ready.{Ground, Steps}
@@ -41,15 +44,15 @@ refuses nums left room v slots k h z = go (ltb left (cost (placing_of nums v slo
         let q : ◌≡◌ {A = Step} (lead s.vector (slots_after nums v slots) s.exchanges s.powers) (refuse k) = rw (x, y, step) at h in
         let r : ◌≡◌ {A = ℕ} 0 1 = cc in omega arith
 
-says-lead : (s : Step) (r : Placement) (v : Vector) (slots : List Piece) → ((k : ℕ) → s ≡ refuse k → k ≡ 0 → ⊥) → Says s r v slots → r.number ≡ 0
+says-lead : (s : Step) (r : Placement) (v : Vector) (slots : List Piece) → ((k : ℕ) → s ≡ refuse k → k ≡ 0 → ⊥) → Says s (Ok r) v slots
     → s ≡ lead v slots r.exchanges r.powers
-says-lead (refuse k) r v slots never h z = absurd (never k refl (sym h ∙ z))
-says-lead (lead v' slots' e p) r v slots never h z =
+says-lead (refuse k) r v slots never h = absurd (never k refl (sym h))
+says-lead (lead v' slots' e p) r v slots never h =
     let a : v ≡ v' = h.1 in let b : slots ≡ slots' = h.2 in let c : r.exchanges ≡ e = h.3 in let d : r.powers ≡ p = h.4 in cc
 
-says-refuse : (s : Step) (r : Placement) (v : Vector) (slots : List Piece) → Says s r v slots → (r.number ≡ 0 → ⊥) → s ≡ refuse r.number
-says-refuse (refuse k) r v slots h z = ap refuse (sym h)
-says-refuse (lead v' slots' e p) r v slots h z = absurd (z h.0)
+says-refuse : (s : Step) (r : Refusal) (v : Vector) (slots : List Piece) → Says s (Err r) v slots → s ≡ refuse (refusal_number r)
+says-refuse (refuse k) r v slots h = ap refuse (sym h)
+says-refuse (lead v' slots' e p) r v slots h = absurd (omega (arith, h.0, number-some r))
 
 -- A step on slots that are not empty, by the rules.
 goes_on : {nums : List ℕ} {budget room : ℕ} {v v' : Vector} (slots : List Piece) {after : List Piece} (c : ℕ) {e p : ℕ} {o : Outcome} → 1 ≤ length slots
@@ -72,10 +75,6 @@ pub record Underway (nums bodies : List ℕ) (v₀ : Vector) (word : List ℕ) (
   pub on : (o : Outcome) → Runs nums budget (length ws₀ / 3) v (pieces bodies word ws d) c o
       → Runs nums budget (length ws₀ / 3) v₀ (pieces bodies word ws₀ d₀) c₀ o
 
-pub underway : {nums bodies : List ℕ} {v : Vector} {word : List ℕ} {budget c : ℕ} {ws : List ℕ} {d : ℕ} → Begins nums bodies v word budget c ws d
-    → Underway nums bodies v word budget c ws d v ws c d
-underway b = record { normal = b.normal; stacked = b.stacked; paid = b.paid; kept = refl; on = λ o r. r }
-
 module _ {nums bodies word : List ℕ} {view : View} (ground : Ground nums view bodies word) where
   formed : {ws : List ℕ} {d : ℕ} → Stacked (rank_of nums) bodies word ws d → AllWellFormed (rank_of nums) (pieces bodies word ws d)
   formed {ws} {d} st = all-well-formed bodies word (rank_of nums) (stack ws d) st.sources st.slots
@@ -91,17 +90,14 @@ module _ {nums bodies word : List ℕ} {view : View} (ground : Ground nums view 
 
   module _ {v₀ : Vector} {budget c₀ : ℕ} {ws₀ : List ℕ} {d₀ : ℕ} (begins : Begins nums bodies v₀ word budget c₀ ws₀ d₀)
       {v : Vector} {ws : List ℕ} {c d : ℕ} (now : Underway nums bodies v₀ word budget c₀ ws₀ d₀ v ws c d) where
-    -- The vector keeps its length: both are normal.
-    pub same-long : length v ≡ length v₀
-    same-long = normal-length (presentation nums) (rank_of nums) 1 v now.normal ∙ sym (normal-length (presentation nums) (rank_of nums) 1 v₀ begins.normal)
-
     -- The end: no slot is left.
-    pub turn_end : d ≡ 0 → Ran nums bodies v₀ word budget c₀ ws₀ d₀ v ws (record { number = 0; count = c })
+    pub turn_end : d ≡ 0 → Ran nums bodies v₀ word budget c₀ ws₀ d₀ v ws (Ok c)
     turn_end z =
         let r = now.on (done v c) (subst (λ (x : ℕ). Runs nums budget (length ws₀ / 3) v (pieces bodies word ws x) c (done v c)) (sym z) ends) in
-        record { kept = now.kept; tells = subst (λ (o : Outcome). Tells o (record { number = 0; count = c }) v) (sym (outcome-of begins r)) (refl, refl, refl) }
+        record { kept = now.kept; tells = subst (λ (o : Outcome). Tells o (Ok c) v) (sym (outcome-of begins r)) (refl, refl, refl) }
 
-    module _ (some : 1 ≤ d) {v' : Vector} {ws' : List ℕ} {r : Placement} (steps : Steps nums bodies word (budget - c) v ws d v' ws' r) where
+    -- A placing from there.
+    module _ (some : 1 ≤ d) where
       there : 1 ≤ length (pieces bodies word ws d)
       there = let l = length-pieces bodies word ws d in omega (arith, l)
 
@@ -109,42 +105,46 @@ module _ {nums bodies word : List ℕ} {view : View} (ground : Ground nums view 
       room-is = ap (λ (x : ℕ). x / 3) now.kept
 
       -- A refusal ends the run.
-      pub turn-off : (r.number ≡ 0 → ⊥) → Ran nums bodies v₀ word budget c₀ ws₀ d₀ v' ws' (record { number = r.number; count = c })
-      turn-off z =
-          let a = says-refuse _ r v' (pieces bodies word ws' r.depth) steps.tells z in
-          let b = subst (λ (x : ℕ). step nums (budget - c) x v (pieces bodies word ws d) ≡ refuse r.number) room-is a in
-          let k = now.on (refused r.number c) (stops-there (pieces bodies word ws d) c there b) in
+      pub turn-off : {r : Refusal} {v' : Vector} {ws' : List ℕ} → Steps nums bodies word (budget - c) v ws d v' ws' (Err r)
+          → Ran nums bodies v₀ word budget c₀ ws₀ d₀ v' ws' (Err (record { refusal = r; count = c }))
+      turn-off {r} {v'} {ws'} steps =
+          let k = refusal_number r in
+          let a = says-refuse _ r v' (pieces bodies word ws' 0) steps.tells in
+          let b = subst (λ (x : ℕ). step nums (budget - c) x v (pieces bodies word ws d) ≡ refuse k) room-is a in
+          let o = now.on (refused k c) (stops-there (pieces bodies word ws d) c there b) in
           record {
             kept = steps.kept ∙ now.kept;
-            tells = subst (λ (o : Outcome). Tells o (record { number = r.number; count = c }) v') (sym (outcome-of begins k)) (refl, refl);
+            tells = subst (λ (o : Outcome). Tells o (Err (record { refusal = r; count = c })) v') (sym (outcome-of begins o)) (refl, refl);
           }
 
-      led-to : r.number ≡ 0
-          → step nums (budget - c) (length ws₀ / 3) v (pieces bodies word ws d) ≡ lead v' (pieces bodies word ws' r.depth) r.exchanges r.powers
-      led-to z =
-          let a = says-lead _ r v' (pieces bodies word ws' r.depth) (refuses nums (budget - c) (length ws / 3) v (pieces bodies word ws d)) steps.tells z in
-          subst (λ (x : ℕ). step nums (budget - c) x v (pieces bodies word ws d) ≡ lead v' (pieces bodies word ws' r.depth) r.exchanges r.powers) room-is a
+      module _ {r : Placement} {v' : Vector} {ws' : List ℕ} (steps : Steps nums bodies word (budget - c) v ws d v' ws' (Ok r)) where
+        abbrev left : List Piece
+        left = pieces bodies word ws' r.depth
 
-      facts : r.number ≡ 0 → Leads nums (budget - c) (length ws₀ / 3) v (pieces bodies word ws d) v' (pieces bodies word ws' r.depth) r.exchanges r.powers
-      facts z = leads nums (budget - c) (length ws₀ / 3) v (pieces bodies word ws d) v' (pieces bodies word ws' r.depth) r.exchanges r.powers (led-to z)
+        led-to : step nums (budget - c) (length ws₀ / 3) v (pieces bodies word ws d) ≡ lead v' left r.exchanges r.powers
+        led-to =
+            let a = says-lead _ r v' left (refuses nums (budget - c) (length ws / 3) v (pieces bodies word ws d)) steps.tells in
+            subst (λ (x : ℕ). step nums (budget - c) x v (pieces bodies word ws d) ≡ lead v' left r.exchanges r.powers) room-is a
 
-      -- The count stays within the budget.
-      pub turn-paid : r.number ≡ 0 → c + (r.exchanges + r.powers) ≤ budget
-      turn-paid z = let l = facts z in omega (arith, l.budgeted, l.exchanges, l.powers, now.paid)
+        facts : Leads nums (budget - c) (length ws₀ / 3) v (pieces bodies word ws d) v' left r.exchanges r.powers
+        facts = leads nums (budget - c) (length ws₀ / 3) v (pieces bodies word ws d) v' left r.exchanges r.powers led-to
 
-      -- Otherwise it goes on from what is left.
-      pub turn_on : r.number ≡ 0 → Underway nums bodies v₀ word budget c₀ ws₀ d₀ v' ws' (c + (r.exchanges + r.powers)) r.depth
-      turn_on z =
-          record {
-            normal = leads-normal nums budget (length ws₀ / 3) (valid nums ground.accepts) paired now.normal (facts z);
-            stacked = steps.stands z;
-            paid = turn-paid z;
-            kept = steps.kept ∙ now.kept;
-            on = λ o k. now.on o (goes_on (pieces bodies word ws d) c there (led-to z) k);
-          }
+        -- The count stays within the budget.
+        pub turn-paid : c + (r.exchanges + r.powers) ≤ budget
+        turn-paid = omega (arith, facts.budgeted, facts.exchanges, facts.powers, now.paid)
 
-      pub turn-falls : r.number ≡ 0
-          → length (letters (pieces bodies word ws' r.depth)) + rank_of nums * prime_of nums * (budget - (c + (r.exchanges + r.powers)))
-          < length (letters (pieces bodies word ws d)) + rank_of nums * prime_of nums * (budget - c)
-      turn-falls z =
-          falls nums budget (length ws₀ / 3) (valid nums ground.accepts) paired c there now.normal (formed now.stacked) (facts z)
+        -- Otherwise it goes on from what is left.
+        pub turn_on : Underway nums bodies v₀ word budget c₀ ws₀ d₀ v' ws' (c + (r.exchanges + r.powers)) r.depth
+        turn_on =
+            record {
+              normal = leads-normal nums budget (length ws₀ / 3) (valid nums ground.accepts) paired now.normal facts;
+              stacked = steps.stands refl;
+              paid = turn-paid;
+              kept = steps.kept ∙ now.kept;
+              on = λ o k. now.on o (goes_on (pieces bodies word ws d) c there led-to k);
+            }
+
+        pub turn-falls : length (letters left) + rank_of nums * prime_of nums * (budget - (c + (r.exchanges + r.powers)))
+            < length (letters (pieces bodies word ws d)) + rank_of nums * prime_of nums * (budget - c)
+        turn-falls =
+            falls nums budget (length ws₀ / 3) (valid nums ground.accepts) paired c there now.normal (formed now.stacked) facts

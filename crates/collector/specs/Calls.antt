@@ -1,14 +1,16 @@
 -- The calls: what each answers, and what it leaves in every lent slice.
 --
 -- Main definitions: `Left`, `collect_call`, `product_call`, `inverse_call`, `depth_call`.
-use Rattle.std.specs.Prelude.{◌≡◌, List, [], ◌∷◌, Bool, true, false, ℕ, zero, suc, ◌-◌, ◌/◌, length, get_or, replicate, eqb}
+use Rattle.std.specs.Prelude.{◌≡◌, List, [], ◌∷◌, Bool, true, false, ℕ, zero, suc, ◌-◌, ◌/◌, length, get_or, replicate, eqb, Result, Ok, Err}
 use Rattle.theory.specs.Presentation.{Vector}
 use Rattle.theory.specs.Placing.{complement}
 use Rattle.layout.specs.Header.{rank_of, exponent_of}
 use Rattle.layout.specs.Judged.{judged}
 use Rattle.slots.specs.Pieces.{power}
-use Rattle.collector.specs.declared.Answer.{Answer}
-use Rattle.collector.specs.declared.DepthAnswer.{DepthAnswer}
+use Rattle.layout.specs.declared.refusal.Refusal.{Refusal}
+use Rattle.layout.specs.Refusals.{given}
+use Rattle.collector.specs.declared.Refused.{Refused}
+use Rattle.collector.specs.Given.{number_in, count_in}
 use Rattle.collector.specs.Run.{Outcome, done, refused, begun}
 use Rattle.collector.specs.Inputs.{vector_right, word_right, word_slots, power_slots}
 
@@ -37,6 +39,10 @@ room_of ws = length ws / 3
 abbrev pub vector_number : List ℕ → Vector → ℕ
 vector_number nums v =
     elim (eqb (judged nums) 0) [ true ↦ elim (vector_right nums v) [ true ↦ 0 | false ↦ 7 ] | false ↦ judged nums ]
+
+-- The number that a word gets.
+abbrev pub word_number : List ℕ → List ℕ → ℕ
+word_number nums w = elim (word_right nums w) [ true ↦ 0 | false ↦ 8 ]
 
 -- "Checks run in the order 1 to 8 (left vector before right), then the starting slots, then at each placing BUDGET before ROOM."
 abbrev pub judged_first : List ℕ → Vector → List ℕ → Left → Left
@@ -96,6 +102,11 @@ first_entry none g [] = none
 first_entry none g (zero ∷ v) = first_entry none (suc g) v
 first_entry none g (suc a ∷ v) = g
 
+-- What asking for a depth answers: its number, and the depth. A depth is no generator number.
+pub record DepthAnswer : Type 0 where
+  pub number : ℕ
+  pub depth : ℕ
+
 -- "a refused depth is 0".
 abbrev pub depth_call : List ℕ → Vector → DepthAnswer
 depth_call nums v =
@@ -108,8 +119,18 @@ depth_call nums v =
     ]
 
 -- The answer, the vector and the workspace at exit are those.
-pub record Leaves (left : Left) (answer : Answer) (vector work : List ℕ) : Type 0 where
-  pub number : answer.number ≡ left.number
-  pub count : answer.count ≡ left.count
+pub record Leaves (left : Left) (answer : Result ℕ Refused) (vector work : List ℕ) : Type 0 where
+  pub number : number_in answer ≡ left.number
+  pub count : count_in answer ≡ left.count
   pub vector_is : vector ≡ left.vector
   pub work_is : work ≡ left.work
+
+-- The depth that an answer holds, 0 where it is refused.
+abbrev pub depth_in : Result ℕ Refusal → ℕ
+depth_in (Ok depth) = depth
+depth_in (Err refusal) = 0
+
+-- The answer is that depth, or that refusal.
+pub record Fathoms (told : DepthAnswer) (answer : Result ℕ Refusal) : Type 0 where
+  pub number : given answer ≡ told.number
+  pub depth : depth_in answer ≡ told.depth

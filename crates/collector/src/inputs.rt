@@ -1,49 +1,51 @@
-// Judging what a call is handed besides the presentation. Inner functions of this crate.
-ghost use Rattle.std.specs.Prelude.{◌≡◌, ◌≤◌, length};
-ghost use Rattle.layout.specs.Header.{Seen};
+// Judging what a call is handed besides the presentation. Inner functions, for this crate and those above.
+ghost use Rattle.std.specs.Prelude.{◌≡◌, [], IfOk};
+ghost use Rattle.layout.specs.Refusals.{given};
 ghost use Rattle.collector.specs.Inputs.{vector_right, word_right};
+ghost use Rattle.collector.specs.Calls.{word_number};
 
-use layout::View;
+use layout::{Group, Refusal};
+use placing::Texts;
 
 // Whether the vector has n entries, each below p.
-pub fn vector_right(numbers: &[u16], view: View, vector: &[u8]) -> bool
-    requires { Seen numbers.now view }
-    ensures { result ≡ vector_right numbers.now vector.now }
+pub fn vector_right(group: Group, vector: &[u8]) -> bool
+    ensures { result ≡ vector_right group.entry.numbers.now vector.now }
 {
-    if vector.len() != view.rank.0 as usize {
-        return false;
-    }
-    let mut at: usize = 0;
-    while at < vector.len() {
-        if view.prime.0 <= vector[at] as u16 {
-            return false;
-        }
-        at += 1;
-    }
-    true
+    vector.len() == usize::from(group.view.rank.0)
+        && vector.iter().all(|a| u16::from(*a) < group.view.prime.0)
 }
 
 // Whether the word has at most 4,096 pairs, each of a generator from 1 to n and an exponent at least 1.
-pub fn word_right(numbers: &[u16], view: View, word: &[u16]) -> bool
-    requires { Seen numbers.now view }
-    ensures { result ≡ word_right numbers.now word.now }
+fn word_right(group: Group, word: &[u16]) -> bool
+    ensures { result ≡ word_right group.entry.numbers.now word.now }
 {
     if 8192 < word.len() {
         return false;
     }
-    let mut at: usize = 0;
-    while at + 1 < word.len() {
-        let g = word[at];
-        if g == 0 {
-            return false;
-        }
-        if view.rank.0 < g {
-            return false;
-        }
-        if word[at + 1] == 0 {
-            return false;
-        }
-        at += 2;
+    let (pairs, rest) = word.as_chunks::<2>();
+    rest.is_empty()
+        && pairs
+            .iter()
+            .all(|[g, a]| 1 <= *g && *g <= group.view.rank.0 && 1 <= *a)
+}
+
+// What a collection of the word reads, or the refusal of the word.
+pub fn read<'a>(group: Group<'a>, word: &'a [u16]) -> Result<Texts<'a>, Refusal>
+    ensures number { given result ≡ word_number group.entry.numbers.now word.now }
+    ensures same { IfOk result (λ texts. (texts.group ≡ group.entry) × (texts.word ≡ word.entry)) }
+{
+    if !word_right(group, word) {
+        return Err(Refusal::Word);
     }
-    at == word.len()
+    Ok(Texts { group, word })
+}
+
+// What is read where there is no input word: products, inverses and the check.
+pub fn wordless<'a>(group: Group<'a>) -> Texts<'a>
+    ensures { (result.group ≡ group.entry) × (result.word.now ≡ []) }
+{
+    Texts {
+        group,
+        word: &group.numbers[..0],
+    }
 }

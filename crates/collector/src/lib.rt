@@ -8,18 +8,26 @@ pub mod inverting; // the inverse, generator by generator
 pub mod running; // the run under budget and room
 pub mod starting; // starting slots
 
-pub use calls::{collect, depth, inverse, product};
+ghost use Rattle.std.specs.Prelude.{◌≡◌};
 
-// What a call answers: 0 and the count of replacements, or the number of its refusal and the count before it.
-#[derive(Clone, Copy)]
-pub struct Answer {
-    pub number: u8,
+pub use calls::{collect, depth, inverse, product};
+use layout::Refusal;
+
+// Why a call is refused, and the count of replacements before that: 0 where what it was handed is refused.
+#[derive(Clone, Copy, PartialEq, Eq, Debug)]
+pub struct Refused {
+    pub refusal: Refusal,
     pub count: u32,
 }
 
-// What asking for a depth answers: 0 and the depth, or the number of its refusal and 0. A depth is no generator number.
-#[derive(Clone, Copy)]
-pub struct DepthAnswer {
-    pub number: u8,
-    pub depth: u16,
+// "Every refusal but 9 and 10 answers count 0".
+impl From<Refusal> for Refused {
+    ghost from_gives = { λ refusal refused. (refused.refusal ≡ refusal) × (refused.count ≡ 0) };
+
+    fn from(refusal: Refusal) -> Refused {
+        Refused { refusal, count: 0 }
+    }
 }
+
+// What a call answers: the count of replacements, or why it is refused.
+pub type Answer = Result<u32, Refused>;

@@ -1,94 +1,59 @@
 // The run: placing after placing, until no slot is left or a placing is refused.
-ghost use Rattle.std.specs.Prelude.{◌≡◌, ◌≤◌, ◌/◌, length, drop};
-ghost use Rattle.layout.specs.Header.{Seen, bodies_at};
-ghost use Rattle.layout.specs.Judged.{judged};
-ghost use Rattle.placing.specs.Ready.{Ground};
 ghost use Rattle.collector.specs.Running.{Begins, Ran, Sets, Settled};
 
-use crate::Answer;
-use layout::View;
-use placing::{ROOM, place};
+use crate::{Answer, Refused};
+use layout::Refusal;
+use placing::{Texts, place};
+use slots::room;
 
 // Runs from the vector, the `depth` slots of the workspace and the count on. The counter of replacements runs beside the collector and is
-// compared at each placing.
+// compared at each placing. Budget and count are handed apart: the budget stays, and the count comes back in the answer, so that a value of
+// the two would be built anew for each run.
 pub fn run(
-    numbers: &[u16],
-    view: View,
-    bodies: &[u16],
+    texts: Texts,
     vector: &mut [u8],
-    word: &[u16],
     budget: u32,
     count: u32,
     work: &mut [u16],
     depth: usize,
 ) -> Answer
-    requires ground { Ground numbers.now view bodies.now word.now }
-    requires begins { Begins numbers.now bodies.now vector.old word.now budget count work.old depth }
-    ensures { Ran numbers.now bodies.now vector.old word.now budget count work.old depth
+    requires begins { Begins texts.group.numbers.now texts.group.bodies.now vector.old texts.word.now budget count work.old depth }
+    ensures { Ran texts.entry.group.numbers.now texts.entry.group.bodies.now vector.old texts.entry.word.now budget count work.old depth
         vector.new work.new result }
 {
     let mut spent = count;
     let mut slots = depth;
     while slots != 0 {
-        let placed = place(
-            numbers,
-            view,
-            bodies,
-            vector,
-            word,
-            budget - spent,
-            work,
-            slots,
-        );
-        if placed.number != 0 {
-            return Answer {
-                number: placed.number,
+        let placed = place(texts, vector, budget - spent, work, slots).map_err(
+            |refusal| Refused {
+                refusal,
                 count: spent,
-            };
-        }
+            },
+        )?;
         spent += placed.exchanges + placed.powers;
         slots = placed.depth;
     }
-    Answer {
-        number: 0,
-        count: spent,
-    }
+    Ok(spent)
 }
 
 // Runs from starting slots that may exceed the room: 10 if they do.
 pub fn settle(
-    numbers: &[u16],
-    view: View,
-    bodies: &[u16],
+    texts: Texts,
     vector: &mut [u8],
-    word: &[u16],
     budget: u32,
     count: u32,
     work: &mut [u16],
     depth: usize,
 ) -> Answer
-    requires ground { Ground numbers.now view bodies.now word.now }
-    requires sets { Sets numbers.now bodies.now vector.old word.now budget count work.old depth }
-    ensures { Settled numbers.now bodies.now vector.old word.now budget count work.old depth
+    requires sets { Sets texts.group.numbers.now texts.group.bodies.now vector.old texts.word.now budget count work.old depth }
+    ensures { Settled texts.entry.group.numbers.now texts.entry.group.bodies.now vector.old texts.entry.word.now budget count work.old depth
         vector.new work.new result }
 {
-    if work.len() < 3 * depth {
-        return Answer {
-            number: ROOM,
+    if room(work) < depth {
+        return Err(Refused {
+            refusal: Refusal::Room,
             count,
-        };
+        });
     }
-    run(
-        numbers, view, bodies, vector, word, budget, count, work, depth,
-    )
-}
-
-// The numbers from the first body on, from which relation words are read.
-pub fn bodies_of(numbers: &[u16], view: View) -> &[u16]
-    requires numbers_value { judged numbers.now ≡ 0 }
-    requires seen { Seen numbers.now view }
-    ensures { result.now ≡ drop (bodies_at numbers.now) numbers.now }
-{
-    let start = view.bodies;
-    &numbers[start..]
+    run(texts, vector, budget, count, work, depth)
 }

@@ -1,21 +1,28 @@
 // Starting slots. Where the workspace has no room for a slot it is not stored, and the count of slots goes on: the caller judges ROOM.
 // Inner functions, for this crate and those above.
-ghost use Rattle.std.specs.Prelude.{◌≡◌, ◌+◌, ◌≤◌, length};
+ghost use Rattle.std.specs.Prelude.{◌≡◌, ◌+◌, ◌≤◌, ◌<◌, length};
 ghost use Rattle.slots.specs.Slots.{Sound};
 ghost use Rattle.collector.specs.Starting.{word_start, power_start, Put, Held};
 
 use layout::{Exponent, Generator};
-use slots::{Slot, push};
+use slots::{Slot, push, room};
+
+// The generator of the entry at the index `at`. There are at most 40, so the cast is exact: `try_from` would have a branch that nothing takes.
+pub(crate) fn generator_at(at: usize) -> Generator
+    requires { at < 40 }
+    ensures { result.0 ≡ at + 1 }
+{
+    Generator((at + 1) as u16)
+}
 
 // Puts a slot on `depth` slots, if there is room for it.
 pub fn put(work: &mut [u16], depth: usize, slot: Slot)
     requires { (depth ≤ 1000) × Sound slot }
     ensures { Put slot work.old depth work.new }
 {
-    if work.len() < 3 * (depth + 1) {
-        return;
+    if depth < room(work) {
+        push(work, depth, slot);
     }
-    push(work, depth, slot);
 }
 
 // "Collecting: the input word as one string, none if empty." Answers how many slots that is.
@@ -24,9 +31,10 @@ pub fn start_word(word: &[u16], work: &mut [u16]) -> usize
     ensures work_len_unchanged { length work.new ≡ length work.old }
     ensures held { Held (word_start word.now) work.new result }
 {
-    if word.len() == 0 {
+    if word.is_empty() {
         return 0;
     }
+    // At most 4,096, so the cast is exact.
     let pairs = (word.len() / 2) as u16;
     put(work, 0, Slot::Input { start: 0, pairs });
     1
@@ -39,15 +47,13 @@ pub fn start_powers(right: &[u8], work: &mut [u16]) -> usize
     ensures held { Held (power_start 1 right.now) work.new result }
 {
     let mut depth: usize = 0;
-    let mut at = right.len();
-    while 0 < at {
-        at -= 1;
+    for at in (0..right.len()).rev() {
         let e = right[at];
         if e != 0 {
             put(
                 work,
                 depth,
-                Slot::Power(Generator((at + 1) as u16), Exponent(e as u16)),
+                Slot::Power(generator_at(at), Exponent(u16::from(e))),
             );
             depth += 1;
         }

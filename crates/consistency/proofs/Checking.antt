@@ -8,7 +8,6 @@ use mathlib.Core.List.{List, ◌++◌}
 use mathlib.Core.Bool.{Bool, true, false}
 use Prim.Native.Nat.{ℕ}
 use native.Mathlib.Omega.{arith}
-use lib.ListN.{length, replicate}
 use lib.Dec.{eqb}
 use borrow.Author.Tests.{eq-eqb, ne_eqb, eqb-true, eqb-false}
 use Rattle.theory.specs.Presentation.{Presentation, Word, Vector, Normal, Over, spell, identity}
@@ -20,17 +19,20 @@ use Rattle.theory.proofs.Collecting.{whole, collect-normal}
 use Rattle.theory.proofs.Joining.{joined-trans, joined-sym, joined_at, collect-joined, sides-over, sides-joined}
 use Rattle.theory.proofs.Listing.{listed, among}
 use Rattle.layout.specs.Header.{rank_of}
+use Rattle.layout.specs.declared.refusal.Refusal.{Refusal}
+use Rattle.layout.specs.Refusals.{refusal_number, refusal_of}
 use Rattle.layout.specs.Judged.{judged}
 use Rattle.layout.specs.Relations.{presentation}
+use Rattle.layout.proofs.Refusals.{refusal-of-number, number-some}
 use Rattle.layout.proofs.Valid.{valid}
 use Rattle.consistency.specs.declared.Checked.{Checked}
 use Rattle.consistency.specs.declared.Overlap.{Overlap as Named}
 use Rattle.consistency.specs.declared.Verdict.{Verdict}
 use Rattle.consistency.specs.declared.Verdict.TheVariants.{Pass, Differs, Refused}
 use Rattle.consistency.specs.Sides.{left_pieces, right_pieces}
-use Rattle.consistency.specs.Check.{overlap_of, named, side_outcome, Decision, passes, differs, stops, decision, verdict_of, padded, left_of, right_of, checked_of, refused_with, check_of, work_after}
+use Rattle.consistency.specs.Check.{overlap_of, named, side_outcome, Decision, passes, differs, stops, decision, verdict_of, padded, left_of, right_of, without_vectors, checked_of, refused_with, check_of}
 use Rattle.consistency.proofs.Spelling.{left-collects, right-collects, start-normal}
-use Rattle.consistency.proofs.Deciding.{Differed, agreed, differed, Differing, decide-passes, decide-differs}
+use Rattle.consistency.proofs.Deciding.{Differed, agreed, differed, decided-pass, Differing, decide-passes, decide-differs}
 
 -- The code's overlap of a theory's overlap, and back.
 pub overlap-named : (o : Overlap) → overlap_of (named o) ≡ o
@@ -49,12 +51,6 @@ module _ (nums : List ℕ) (budget room : ℕ) where
   unfolding check_of
   check-refused h = rw (ne_eqb (judged nums) 0 h, check_of)
 
--- What a verdict that comes from a decision says of it.
-decided-pass : (d : Decision) → verdict_of d ≡ Pass → d ≡ passes
-decided-pass passes e = refl
-decided-pass (differs o l r) e = let z : ◌≡◌ {A = ℕ} 0 1 = cc in absurd (omega arith)
-decided-pass (stops k o) e = let z : ◌≡◌ {A = ℕ} 0 1 = cc in absurd (omega arith)
-
 -- What a decision that names an overlap as differing was.
 pub record Came (d : Decision) (o : Named) : Type 0 where
   pub overlap : Overlap
@@ -64,23 +60,31 @@ pub record Came (d : Decision) (o : Named) : Type 0 where
   pub names : named overlap ≡ o
 
 decided-differs : (d : Decision) (o : Named) → verdict_of d ≡ Differs o → Came d o
-decided-differs passes o e = let z : ◌≡◌ {A = ℕ} 0 1 = cc in absurd (omega arith)
+decided-differs passes o e = cc
 decided-differs (differs q l r) o e = record { overlap = q; left = l; right = r; decided = refl; names = cc }
-decided-differs (stops k q) o e = let z : ◌≡◌ {A = ℕ} 0 1 = cc in absurd (omega arith)
+decided-differs (stops k q) o e = cc
+
+-- What accepting the numbers says: why they are refused.
+pub refused-first : (nums : List ℕ) (budget room : ℕ) (refusal : Refusal) → refusal_number refusal ≡ judged nums
+    → without_vectors (Refused refusal) ≡ check_of nums budget room
+refused-first nums budget room refusal e =
+    ap (λ (r : Refusal). without_vectors (Refused r)) (sym (refusal-of-number refusal) ∙ ap refusal_of e)
+    ∙ sym (check-refused nums budget room (λ z. omega (arith, number-some refusal)))
 
 -- Any other verdict than a refusal with 1 to 6 was given to accepted numbers.
-pub accepted-first : (nums : List ℕ) (budget room : ℕ) → ((k : ℕ) → (check_of nums budget room).verdict ≡ Refused k → ⊥) → judged nums ≡ 0
+pub accepted-first : (nums : List ℕ) (budget room : ℕ) → ((r : Refusal) → (check_of nums budget room).verdict ≡ Refused r → ⊥) → judged nums ≡ 0
 accepted-first nums budget room h = go (eqb (judged nums) 0) refl
   where
     go : (b : Bool) → eqb (judged nums) 0 ≡ b → judged nums ≡ 0
     go true e = eqb-true (judged nums) 0 e
-    go false e = absurd (h (judged nums) (ap (λ (x : Checked). x.verdict) (check-refused nums budget room (eqb-false (judged nums) 0 e))))
+    go false e =
+        absurd (h (refusal_of (judged nums)) (ap (λ (x : Checked). x.verdict) (check-refused nums budget room (eqb-false (judged nums) 0 e))))
 
-pass-apart : (k : ℕ) {v : Verdict} → v ≡ Pass → v ≡ Refused k → ⊥
-pass-apart k p q = let z : ◌≡◌ {A = ℕ} 0 1 = cc in absurd (omega arith)
+pass-apart : (r : Refusal) {v : Verdict} → v ≡ Pass → v ≡ Refused r → ⊥
+pass-apart r p q = cc
 
-differs-apart : (k : ℕ) (o : Named) {v : Verdict} → v ≡ Differs o → v ≡ Refused k → ⊥
-differs-apart k o p q = let z : ◌≡◌ {A = ℕ} 0 1 = cc in absurd (omega arith)
+differs-apart : (r : Refusal) (o : Named) {v : Verdict} → v ≡ Differs o → v ≡ Refused r → ⊥
+differs-apart r o p q = cc
 
 module _ (nums : List ℕ) (budget room : ℕ) where
   abbrev P : Presentation
@@ -91,7 +95,7 @@ module _ (nums : List ℕ) (budget room : ℕ) where
 
   -- If the check passes, the numbers are accepted and the presentation is consistent.
   pub passed-accepted : (check_of nums budget room).verdict ≡ Pass → judged nums ≡ 0
-  passed-accepted e = accepted-first nums budget room (λ k. pass-apart k e)
+  passed-accepted e = accepted-first nums budget room (λ r. pass-apart r e)
 
   pub passed : (check_of nums budget room).verdict ≡ Pass → Consistent (presentation nums)
   passed e o a =
@@ -132,7 +136,7 @@ module _ (nums : List ℕ) (budget room : ℕ) where
   differs-joined o e = subst Apart came.names answer
     where
       h : judged nums ≡ 0
-      h = accepted-first nums budget room (λ k. differs-apart k o e)
+      h = accepted-first nums budget room (λ r. differs-apart r o e)
 
       came : Came (decision nums budget room) o
       came = decided-differs (decision nums budget room) o (sym (ap (λ (x : Checked). x.verdict) (check-accepted nums budget room h)) ∙ e)
@@ -183,11 +187,3 @@ module _ (nums : List ℕ) (budget room : ℕ) where
                 (joined-trans P (sides-joined P (valid nums h) 1 came.overlap (omega arith) a)
                 (collected-joined h (right_side P came.overlap) came.right over.1 rc));
           }
-
--- The workspace after the two cases of judging.
-module _ (nums ws : List ℕ) where
-  pub work-accepted : judged nums ≡ 0 → replicate (length ws) 0 ≡ work_after nums ws
-  work-accepted h = rw (eq-eqb (judged nums) 0 h, work_after)
-
-  pub work-refused : (judged nums ≡ 0 → ⊥) → ws ≡ work_after nums ws
-  work-refused h = rw (ne_eqb (judged nums) 0 h, work_after)

@@ -1,30 +1,31 @@
 -- Which overlap settles the verdict.
 --
--- Main results: `same-equal`, `equal-same`; `agreed`, `differed`; `decide-append`, `decide-passes`, `decide-differs`.
+-- Main results: `same-equal`, `same-itself`; `agreed`, `differed`; `else-first`, `decided-pass`; `decide-append`, `decide-passes`,
+-- `decide-differs`.
 use mathlib.Core.Path.{◌≡◌, refl, sym, ap, ap₂, ◌∙◌}
 use mathlib.Core.List.Memᴰ
 use mathlib.Core.List.{List, [], ◌∷◌, ◌++◌, Memᴰ}
 use mathlib.Core.Bool.{Bool, true, false}
 use mathlib.Core.Logic.{◌⊎◌, inl, inr}
 use Prim.Native.Nat.{ℕ}
-use native.Mathlib.Omega.{arith}
 use lib.Dec.{eqb}
 use borrow.Author.Tests.{eq-eqb, eqb-true}
 use Rattle.theory.specs.Presentation.{Vector}
 use Rattle.theory.specs.Overlaps.{Overlap}
 use Rattle.collector.specs.Run.{Outcome, done, refused}
-use Rattle.consistency.specs.Check.{Judgement, agree, differ, stop, same, compared, judging, judgement, Decision, passes, differs, stops, settling, decide}
+use Rattle.consistency.specs.declared.Verdict.TheVariants.{Pass}
+use Rattle.consistency.specs.Check.{Judgement, agree, differ, stop, same, compared, judging, judgement, Decision, passes, differs, stops, settling, decide, verdict_of}
 
 -- The test of two vectors.
 pub same-equal : (l r : Vector) → same l r ≡ true → l ≡ r
 same-equal [] [] h = refl
-same-equal [] (b ∷ r) h = let z : ◌≡◌ {A = ℕ} 0 1 = cc in absurd (omega arith)
-same-equal (a ∷ l) [] h = let z : ◌≡◌ {A = ℕ} 0 1 = cc in absurd (omega arith)
+same-equal [] (b ∷ r) h = cc
+same-equal (a ∷ l) [] h = cc
 same-equal (a ∷ l) (b ∷ r) h = go (eqb a b) refl (same-equal l r)
   where
     go : (t : Bool) → eqb a b ≡ t → (same l r ≡ true → l ≡ r) → a ∷ l ≡ b ∷ r
     go true e rest = ap₂ {C = Vector} (λ x y. x ∷ y) (eqb-true a b e) (rest (rw (e, same) at h))
-    go false e rest = let q : ◌≡◌ {A = Bool} false true = rw (e, same) at h in let z : ◌≡◌ {A = ℕ} 0 1 = cc in absurd (omega arith)
+    go false e rest = let q : ◌≡◌ {A = Bool} false true = rw (e, same) at h in cc
 
 pub same-itself : (l : Vector) → same l l ≡ true
 same-itself [] = refl
@@ -46,21 +47,21 @@ pub record Differed (left right : Outcome) (l r : Vector) : Type 0 where
   pub apart : l ≡ r → ⊥
 
 pub agreed : (left right : Outcome) → judging left right ≡ agree → Agreed left right
-agreed (refused k c) right e = let z : ◌≡◌ {A = ℕ} 0 1 = cc in absurd (omega arith)
-agreed (done l c) (refused k d) e = let z : ◌≡◌ {A = ℕ} 0 1 = cc in absurd (omega arith)
+agreed (refused k c) right e = cc
+agreed (done l c) (refused k d) e = cc
 agreed (done l c) (done r d) e = go (same l r) refl
   where
     go : (t : Bool) → same l r ≡ t → Agreed (done l c) (done r d)
     go true s = record { vector = l; left-count = c; right-count = d; left-done = refl; right-done = ap (λ (x : Vector). done x d) (sym (same-equal l r s)) }
-    go false s = let q : ◌≡◌ {A = Judgement} (differ l r) agree = rw (s, compared) at e in let z : ◌≡◌ {A = ℕ} 0 1 = cc in absurd (omega arith)
+    go false s = let q : ◌≡◌ {A = Judgement} (differ l r) agree = rw (s, compared) at e in cc
 
 pub differed : (left right : Outcome) (a b : Vector) → judging left right ≡ differ a b → Differed left right a b
-differed (refused k c) right a b e = let z : ◌≡◌ {A = ℕ} 0 1 = cc in absurd (omega arith)
-differed (done l c) (refused k d) a b e = let z : ◌≡◌ {A = ℕ} 0 1 = cc in absurd (omega arith)
+differed (refused k c) right a b e = cc
+differed (done l c) (refused k d) a b e = cc
 differed (done l c) (done r d) a b e = go (same l r) refl
   where
     go : (t : Bool) → same l r ≡ t → Differed (done l c) (done r d) a b
-    go true s = let q : ◌≡◌ {A = Judgement} agree (differ a b) = rw (s, compared) at e in let z : ◌≡◌ {A = ℕ} 0 1 = cc in absurd (omega arith)
+    go true s = let q : ◌≡◌ {A = Judgement} agree (differ a b) = rw (s, compared) at e in cc
     go false s =
         let q : ◌≡◌ {A = Judgement} (differ l r) (differ a b) = rw (s, compared) at e in
         let x : l ≡ a = cc in
@@ -75,13 +76,24 @@ differed (done l c) (done r d) a b e = go (same l r) refl
         }
       where
         contrary : true ≡ false → ⊥
-        contrary h = let z : ◌≡◌ {A = ℕ} 0 1 = cc in absurd (omega arith)
+        contrary h = cc
 
 -- A decision that leaves the rest to decide.
 abbrev pub or_else : Decision → Decision → Decision
 or_else passes rest = rest
 or_else (differs o l r) rest = differs o l r
 or_else (stops k o) rest = stops k o
+
+pub else-first : (d rest : Decision) → (verdict_of d ≡ Pass → ⊥) → or_else d rest ≡ d
+else-first passes rest h = absurd (h refl)
+else-first (differs o l r) rest h = refl
+else-first (stops k o) rest h = refl
+
+-- What a verdict that comes from a decision says of it.
+pub decided-pass : (d : Decision) → verdict_of d ≡ Pass → d ≡ passes
+decided-pass passes e = refl
+decided-pass (differs o l r) e = cc
+decided-pass (stops k o) e = cc
 
 settling-else : (o : Overlap) (j : Judgement) (d rest : Decision) → settling o j (or_else d rest) ≡ or_else (settling o j d) rest
 settling-else o agree d rest = refl
@@ -109,17 +121,17 @@ module _ (nums : List ℕ) (budget room : ℕ) where
       go agree is (inr t) rest = rest (ap (λ (j : Judgement). settling q j (dec os)) (sym is) ∙ e) t
       go (differ l r) is t rest =
           let z : ◌≡◌ {A = Decision} (differs q l r) passes = ap (λ (j : Judgement). settling q j (dec os)) (sym is) ∙ e in
-          let y : ◌≡◌ {A = ℕ} 0 1 = cc in absurd (omega arith)
+          cc
       go (stop k) is t rest =
           let z : ◌≡◌ {A = Decision} (stops k q) passes = ap (λ (j : Judgement). settling q j (dec os)) (sym is) ∙ e in
-          let y : ◌≡◌ {A = ℕ} 0 1 = cc in absurd (omega arith)
+          cc
 
   pub record Differing (os : List Overlap) (o : Overlap) (l r : Vector) : Type 0 where
     pub listed : Memᴰ o os
     pub judged-so : judge o ≡ differ l r
 
   pub decide-differs : (os : List Overlap) (o : Overlap) (l r : Vector) → dec os ≡ differs o l r → Differing os o l r
-  decide-differs [] o l r e = let z : ◌≡◌ {A = ℕ} 0 1 = cc in absurd (omega arith)
+  decide-differs [] o l r e = cc
   decide-differs (q ∷ os) o l r e = go (judge q) refl (decide-differs os o l r)
     where
       go : (j : Judgement) → judge q ≡ j → (dec os ≡ differs o l r → Differing os o l r) → Differing (q ∷ os) o l r
@@ -134,4 +146,4 @@ module _ (nums : List ℕ) (budget room : ℕ) where
           record { listed = Memᴰ.head h; judged-so = ap judge h ∙ is ∙ ap₂ differ x y }
       go (stop k) is rest =
           let z : ◌≡◌ {A = Decision} (stops k q) (differs o l r) = ap (λ (j : Judgement). settling q j (dec os)) (sym is) ∙ e in
-          let y : ◌≡◌ {A = ℕ} 0 1 = cc in absurd (omega arith)
+          cc

@@ -1,44 +1,32 @@
 -- The numbers of a refused check: 1 to 6 without an overlap, 9 or 10 with one.
 --
--- Main result: `verdict-numbered`.
-use mathlib.Core.Path.{◌≡◌, refl, sym, subst}
+-- Main results: `verdict-numbered`; `number-judged`, `number-decided`.
+use mathlib.Core.Path.{◌≡◌, refl, sym, ap, ◌∙◌, subst}
 use mathlib.Core.List.{List, [], ◌∷◌}
 use mathlib.Core.Bool.{Bool, true, false}
-use Prim.Native.Nat.{ℕ, zero, suc, ◌+◌, ◌-◌, ◌≤◌}
+use Prim.Native.Nat.{ℕ, ◌≤◌}
 use native.Mathlib.Omega.{arith}
 use lib.ListN.{length}
-use lib.Dec.{ltb, eqb}
+use lib.Dec.{eqb}
 use borrow.Author.Tests.{eqb-true, eqb-false}
-use Rattle.theory.specs.Presentation.{Vector, identity}
-use Rattle.theory.specs.Placing.{cost}
+use Rattle.theory.specs.Presentation.{Vector}
 use Rattle.theory.specs.Overlaps.{Overlap, overlaps}
 use Rattle.layout.specs.Header.{headed, prime_of, rank_of}
 use Rattle.layout.specs.Prime.{prime_to_251}
 use Rattle.layout.specs.Contents.{contents_right, length_due}
 use Rattle.layout.specs.Bodies.{bodies_right}
 use Rattle.layout.specs.Judged.{rank_right, judged}
-use Rattle.slots.specs.Pieces.{Piece}
-use Rattle.placing.specs.Step.{placing_of, slots_after, Step, refuse, lead, step}
-use Rattle.collector.specs.Run.{Outcome, done, refused, run, enough, begun}
+use Rattle.layout.specs.Refusals.{refusal_number}
+use Rattle.layout.proofs.Refusals.{number-of-refusal}
+use Rattle.collector.specs.Run.{Outcome, done, refused}
 use Rattle.consistency.specs.declared.Checked.{Checked}
 use Rattle.consistency.specs.declared.Verdict.{Verdict}
 use Rattle.consistency.specs.declared.Verdict.TheVariants.{Pass, Differs, Refused, Stopped}
 use Rattle.consistency.specs.Sides.{left_pieces, right_pieces}
-use Rattle.consistency.specs.Check.{side_outcome, Judgement, agree, differ, stop, same, compared, judging, judgement, Decision, passes, differs, stops, settling, decide, verdict_of, check_of}
+use Rattle.consistency.specs.Check.{side_outcome, Judgement, agree, differ, stop, same, compared, judging, judgement, Decision, passes, differs, stops, settling, decide, verdict_of, decision, check_of}
+use Rattle.consistency.specs.Verdict.{number_of}
+use Rattle.consistency.proofs.Collecting.{Late, LateOutcome, late-side}
 use Rattle.consistency.proofs.Checking.{check-accepted, check-refused}
-
--- 9 or 10.
-pub record Late (k : ℕ) : Type 0 where
-  pub low : 9 ≤ k
-  pub high : k ≤ 10
-
-abbrev LateStep : Step → Type 0
-LateStep (refuse k) = Late k
-LateStep (lead v slots e p) = Unit {0}
-
-abbrev LateOutcome : Outcome → Type 0
-LateOutcome (done v c) = Unit {0}
-LateOutcome (refused k c) = Late k
 
 abbrev LateJudgement : Judgement → Type 0
 LateJudgement agree = Unit {0}
@@ -50,49 +38,15 @@ LateDecision passes = Unit {0}
 LateDecision (differs o l r) = Unit {0}
 LateDecision (stops k o) = Late k
 
-nine : Late 9
-nine = record { low = omega arith; high = omega arith }
-
-ten : Late 10
-ten = record { low = omega arith; high = omega arith }
-
--- From a placing up to the decision, each refusal is handed on.
+-- From a side up to the decision, each refusal is handed on.
 module _ (nums : List ℕ) (room : ℕ) where
-  late-step : (left : ℕ) (v : Vector) (slots : List Piece) → LateStep (step nums left room v slots)
-  late-step left v slots = go (ltb left (cost (placing_of nums v slots))) refl (ltb room (length (slots_after nums v slots))) refl
-    where
-      go : (a : Bool) → ltb left (cost (placing_of nums v slots)) ≡ a → (b : Bool) → ltb room (length (slots_after nums v slots)) ≡ b
-          → LateStep (step nums left room v slots)
-      go true e b f = rw (e, step) nine
-      go false e true f = rw (e, f, step) ten
-      go false e false f = rw (e, f, step) tt
-
   module _ (budget : ℕ) where
-    late-run : (fuel : ℕ) (v : Vector) (slots : List Piece) (c : ℕ) → LateOutcome (run fuel nums budget room v slots c)
-    late-run zero v slots c = nine
-    late-run (suc fuel) v [] c = tt
-    late-run (suc fuel) v (x ∷ below) c =
-        go (step nums (budget - c) room v (x ∷ below)) refl (late-step (budget - c) v (x ∷ below)) (λ w s d. late-run fuel w s d)
-      where
-        go : (s : Step) → step nums (budget - c) room v (x ∷ below) ≡ s → LateStep s
-            → ((w : Vector) (s : List Piece) (d : ℕ) → LateOutcome (run fuel nums budget room w s d))
-            → LateOutcome (run (suc fuel) nums budget room v (x ∷ below) c)
-        go (refuse k) e h rest = rw (e, run) h
-        go (lead w s d p) e h rest = rw (e, run) (rest w s (c + (d + p)))
-
-    late-side : (side : List Piece) → LateOutcome (side_outcome nums budget room side)
-    late-side side = go (ltb room (length side)) refl
-      where
-        go : (b : Bool) → ltb room (length side) ≡ b → LateOutcome (side_outcome nums budget room side)
-        go true e = rw (e, begun) ten
-        go false e = rw (e, begun) (late-run (enough nums budget side 0) (identity (rank_of nums)) side 0)
-
     late-decision : (os : List Overlap) → LateDecision (decide nums budget room os)
     late-decision [] = tt
     late-decision (o ∷ os) =
         settled (judgement nums budget room o)
         (judged-late (side_outcome nums budget room (left_pieces nums o)) (side_outcome nums budget room (right_pieces nums o))
-        (late-side (left_pieces nums o)) (late-side (right_pieces nums o)))
+        (late-side nums room budget (left_pieces nums o)) (late-side nums room budget (right_pieces nums o)))
         (late-decision os)
       where
         compared-late : (l r : Vector) → LateJudgement (compared l r)
@@ -133,13 +87,13 @@ judged-few nums =
 abbrev pub Numbered : Verdict → Type 0
 Numbered Pass = Unit {0}
 Numbered (Differs o) = Unit {0}
-Numbered (Refused k) = (1 ≤ k) × (k ≤ 6)
-Numbered (Stopped k o) = Late k
+Numbered (Refused refusal) = (1 ≤ refusal_number refusal) × (refusal_number refusal ≤ 6)
+Numbered (Stopped refusal o) = Late (refusal_number refusal)
 
 decided-numbered : (d : Decision) → LateDecision d → Numbered (verdict_of d)
 decided-numbered passes h = tt
 decided-numbered (differs o l r) h = tt
-decided-numbered (stops k o) h = h
+decided-numbered (stops k o) h = subst Late (sym (number-of-refusal k (omega (arith, h.low)) h.high)) h
 
 pub verdict-numbered : (nums : List ℕ) (budget room : ℕ) → Numbered (check_of nums budget room).verdict
 verdict-numbered nums budget room = go (eqb (judged nums) 0) refl
@@ -154,8 +108,27 @@ verdict-numbered nums budget room = go (eqb (judged nums) 0) refl
     go false e =
         let few = judged-few nums in
         let some = eqb-false (judged nums) 0 e in
-        is (check-refused nums budget room some) (positive (judged nums) some, few)
-      where
-        positive : (k : ℕ) → (k ≡ 0 → ⊥) → 1 ≤ k
-        positive zero h = absurd (h refl)
-        positive (suc k) h = omega arith
+        let number = number-of-refusal (judged nums) (omega arith) (omega arith) in
+        is (check-refused nums budget room some) (omega arith, omega arith)
+
+-- The verdict's number: the one by which the numbers are judged, or by which the side was refused that the decision names.
+abbrev pub decision_number : Decision → ℕ
+decision_number passes = 0
+decision_number (differs o l r) = 0
+decision_number (stops k o) = k
+
+decided-number : (d : Decision) → LateDecision d → number_of (verdict_of d) ≡ decision_number d
+decided-number passes h = refl
+decided-number (differs o l r) h = refl
+decided-number (stops k o) h = number-of-refusal k (omega (arith, h.low)) h.high
+
+module _ (nums : List ℕ) (budget room : ℕ) where
+  pub number-judged : (judged nums ≡ 0 → ⊥) → number_of (check_of nums budget room).verdict ≡ judged nums
+  number-judged some =
+      ap (λ (x : Checked). number_of x.verdict) (check-refused nums budget room some)
+      ∙ number-of-refusal (judged nums) (omega arith) (omega (arith, judged-few nums))
+
+  pub number-decided : judged nums ≡ 0 → number_of (check_of nums budget room).verdict ≡ decision_number (decision nums budget room)
+  number-decided h =
+      ap (λ (x : Checked). number_of x.verdict) (check-accepted nums budget room h)
+      ∙ decided-number (decision nums budget room) (late-decision nums room budget (overlaps (rank_of nums)))

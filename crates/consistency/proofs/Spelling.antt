@@ -128,7 +128,7 @@ module _ (nums : List ℕ) (accepts : judged nums ≡ 0) where
   side-collects budget room side r c f over e = go (ltb room (length side)) refl
     where
       go : (b : Bool) → ltb room (length side) ≡ b → r ≡ collect P n 1 (identity n) (letters side)
-      go true t = let q : ◌≡◌ {A = Outcome} (refused 10 0) (done r c) = rw (t, begun) at e in let z : ◌≡◌ {A = ℕ} 0 1 = cc in absurd (omega arith)
+      go true t = let q : ◌≡◌ {A = Outcome} (refused 10 0) (done r c) = rw (t, begun) at e in cc
       go false t =
           let q : outcome nums budget room (identity n) side 0 ≡ done r c = rw (t, begun) at e in
           let runs : Runs nums budget room (identity n) side 0 (done r c) =

@@ -2,10 +2,11 @@
 --
 -- Main definitions: `overlap_of` and `named`, the code's overlaps and the theory's; `Judgement` and `judgement`; `Decision` and `decide`;
 -- `check_of`, `work_after`.
-use Rattle.std.specs.Prelude.{◌≡◌, List, [], ◌∷◌, ◌++◌, Bool, true, false, ℕ, suc, ◌-◌, length, replicate, eqb}
+use Rattle.std.specs.Prelude.{List, [], ◌∷◌, ◌++◌, Bool, true, false, ℕ, suc, ◌-◌, length, replicate, eqb}
 use Rattle.theory.specs.Presentation.{Vector, identity}
 use Rattle.theory.specs.Overlaps.{Overlap, triple, upper, lower, single, rising, each, overlaps}
 use Rattle.layout.specs.Header.{rank_of}
+use Rattle.layout.specs.Refusals.{refusal_of}
 use Rattle.layout.specs.Judged.{judged}
 use Rattle.slots.specs.Pieces.{Piece}
 use Rattle.collector.specs.Run.{Outcome, done, refused, begun}
@@ -14,8 +15,6 @@ use Rattle.consistency.specs.declared.Overlap.{Overlap as Named}
 use Rattle.consistency.specs.declared.Overlap.TheVariants.{Triple, Pair, Single}
 use Rattle.consistency.specs.declared.Family.{Family}
 use Rattle.consistency.specs.declared.Family.TheVariants.{Upper, Lower}
-use Rattle.consistency.specs.declared.Judged.{Judged}
-use Rattle.consistency.specs.declared.Judged.TheVariants.{Agree, Differ, Stop}
 use Rattle.consistency.specs.declared.Verdict.{Verdict}
 use Rattle.consistency.specs.declared.Verdict.TheVariants.{Pass, Differs, Refused, Stopped}
 use Rattle.consistency.specs.Sides.{left_pieces, right_pieces}
@@ -94,26 +93,12 @@ pairs_of f n = each (rising 1 n) (λ i. each (rising (suc i) (n - i)) (λ j. pai
 abbrev pub singles_of : ℕ → List Overlap
 singles_of n = each (rising 1 n) (λ i. single i ∷ [])
 
--- The verdict is not PASS.
-abbrev pub settled : Verdict → Bool
-settled Pass = false
-settled (Differs o) = true
-settled (Refused k) = true
-settled (Stopped k o) = true
-
--- The verdict is DIFFERS: the vectors are kept.
-abbrev pub kept : Verdict → Bool
-kept Pass = false
-kept (Differs o) = true
-kept (Refused k) = false
-kept (Stopped k o) = false
-
 -- "The verdict is PASS; or DIFFERS with the family, the generators and both vectors; or REFUSED with the number and, for 9 and 10, the
 -- overlap."
 abbrev pub verdict_of : Decision → Verdict
 verdict_of passes = Pass
 verdict_of (differs o l r) = Differs (named o)
-verdict_of (stops k o) = Stopped k (named o)
+verdict_of (stops k o) = Stopped (refusal_of k) (named o)
 
 -- The two vectors of n entries: all entries are 0 unless the verdict is DIFFERS.
 abbrev pub left_of : ℕ → Decision → Vector
@@ -133,9 +118,13 @@ padded n v = v ++ replicate (40 - n) 0
 abbrev pub checked_of : ℕ → Decision → Checked
 checked_of n d = record { verdict = verdict_of d; left = padded n (left_of n d); right = padded n (right_of n d) }
 
+-- A verdict that is not DIFFERS: "all entries are 0".
+abbrev pub without_vectors : Verdict → Checked
+without_vectors v = record { verdict = v; left = replicate 40 0; right = replicate 40 0 }
+
 -- "or REFUSED with the number", 1 to 6.
 abbrev pub refused_with : ℕ → Checked
-refused_with k = record { verdict = Refused k; left = replicate 40 0; right = replicate 40 0 }
+refused_with k = without_vectors (Refused (refusal_of k))
 
 -- What the decision is of all overlaps in their order.
 abbrev pub decision : List ℕ → ℕ → ℕ → Decision
@@ -148,21 +137,3 @@ check_of nums budget room =
 -- "For the workspace PASS and DIFFERS count as DONE": it is 0 after these, 9 and 10, and untouched by the other refusals.
 abbrev pub work_after : List ℕ → List ℕ → List ℕ
 work_after nums ws = elim (eqb (judged nums) 0) [ true ↦ replicate (length ws) 0 | false ↦ ws ]
-
--- What the code answers of one overlap, with the two vectors that it leaves.
-abbrev pub Says : Judgement → Judged → Vector → Vector → Type 0
-Says agree r left right = r ≡ Agree
-Says (differ a b) r left right = (r ≡ Differ) × (left ≡ a) × (right ≡ b)
-Says (stop k) r left right = r ≡ Stop k
-
--- What the code finds among some overlaps, with the two vectors that it leaves.
-abbrev pub Finds : Decision → Verdict → Vector → Vector → Type 0
-Finds passes r left right = r ≡ Pass
-Finds (differs o a b) r left right = (r ≡ Differs (named o)) × (left ≡ a) × (right ≡ b)
-Finds (stops k o) r left right = r ≡ Stopped k (named o)
-
-pub record Said (j : Judgement) (r : Judged) (left right : Vector) : Type 0 where
-  pub says : Says j r left right
-
-pub record Found (d : Decision) (r : Verdict) (left right : Vector) : Type 0 where
-  pub finds : Finds d r left right

@@ -2,4 +2,5 @@
 pub mod Verdict
 pub mod Sides
 pub mod Check
+pub mod Collected
 pub mod Laying

@@ -2,7 +2,7 @@
 -- is one string, first part on top."
 --
 -- Main definitions: `left_pieces`, `right_pieces`; `side_pieces` and `SideRight`, the same for a side as the code has it.
-use Rattle.std.specs.Prelude.{List, [], ◌∷◌, ℕ, zero, suc, ◌-◌, ◌≤◌}
+use Rattle.std.specs.Prelude.{List, [], ◌∷◌, ℕ, ◌-◌, ◌≤◌, Option, Some, None}
 use Rattle.theory.specs.Overlaps.{Overlap, triple, upper, lower, single}
 use Rattle.layout.specs.Header.{exponent_of}
 use Rattle.layout.specs.Contents.{stretch_of}
@@ -28,27 +28,30 @@ right_pieces nums (upper i j) = power j (exponent_of nums j - 1) ∷ power i 1 �
 right_pieces nums (lower i j) = power j 1 ∷ worded nums i i []
 right_pieces nums (single i) = power i 1 ∷ worded nums i i []
 
--- A power on the parts that follow it, none if its exponent is 0.
-abbrev pub powered : ℕ → ℕ → List Piece → List Piece
-powered i zero below = below
-powered i (suc e) below = power i (suc e) ∷ below
-
-abbrev pub part_pieces : Part → List Piece → List Piece
-part_pieces part below = powered part.0.0 part.1.0 below
+-- A power on the parts that follow it, if there is one.
+abbrev pub part_pieces : Option Part → List Piece → List Piece
+part_pieces None below = below
+part_pieces (Some part) below = power part.0.0 part.1.0 ∷ below
 
 -- The parts of a side, first part on top.
 abbrev pub side_pieces : List ℕ → Side → List Piece
 side_pieces nums s =
     part_pieces s.first (part_pieces s.second (part_pieces s.third (worded nums s.i.0 s.j.0 (part_pieces s.last []))))
 
--- A part's generator is one of the n.
+-- A part's generator is one of the n, and its exponent is at least 1.
 pub record PartRight (n : ℕ) (part : Part) : Type 0 where
   pub low : 1 ≤ part.0.0
   pub high : part.0.0 ≤ n
+  pub some : 1 ≤ part.1.0
+
+-- The same of a part that a side may have.
+abbrev pub IfPartRight : ℕ → Option Part → Type 0
+IfPartRight n None = Unit {0}
+IfPartRight n (Some part) = PartRight n part
 
 pub record SideRight (n : ℕ) (s : Side) : Type 0 where
-  pub first : PartRight n s.first
-  pub second : PartRight n s.second
-  pub third : PartRight n s.third
-  pub last : PartRight n s.last
+  pub first : IfPartRight n s.first
+  pub second : IfPartRight n s.second
+  pub third : IfPartRight n s.third
+  pub last : IfPartRight n s.last
   pub word : (1 ≤ s.i.0) × (s.i.0 ≤ s.j.0) × (s.j.0 ≤ n)

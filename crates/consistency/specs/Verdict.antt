@@ -2,6 +2,7 @@
 --
 -- Main definitions: `family_of`, `generators_of`, `number_of`, `values_of`.
 use Rattle.std.specs.Prelude.{List, [], ◌∷◌, ℕ}
+use Rattle.layout.specs.Refusals.{refusal_number}
 use Rattle.consistency.specs.declared.Family.TheVariants.{Upper, Lower}
 use Rattle.consistency.specs.declared.Overlap.{Overlap}
 use Rattle.consistency.specs.declared.Overlap.TheVariants.{Triple, Pair, Single}
@@ -25,13 +26,13 @@ generators_of (Single i) = i.0 ∷ 0 ∷ 0 ∷ []
 abbrev pub number_of : Verdict → ℕ
 number_of Pass = 0
 number_of (Differs o) = 0
-number_of (Refused number) = number
-number_of (Stopped number o) = number
+number_of (Refused refusal) = refusal_number refusal
+number_of (Stopped refusal o) = refusal_number refusal
 
 -- "DIFFERS with the family, the generators ..; or REFUSED with .., for 9 and 10, the overlap": family and generators, all 0 where the
 -- verdict has no overlap.
 abbrev pub values_of : Verdict → List ℕ
 values_of Pass = 0 ∷ 0 ∷ 0 ∷ 0 ∷ []
 values_of (Differs o) = family_of o ∷ generators_of o
-values_of (Refused number) = 0 ∷ 0 ∷ 0 ∷ 0 ∷ []
-values_of (Stopped number o) = family_of o ∷ generators_of o
+values_of (Refused refusal) = 0 ∷ 0 ∷ 0 ∷ 0 ∷ []
+values_of (Stopped refusal o) = family_of o ∷ generators_of o

@@ -1,75 +1,51 @@
 // Judging one overlap: both sides are collected and compared. Inner functions of this crate.
-ghost use Rattle.std.specs.Prelude.{◌≡◌, [], ◌/◌, length};
+ghost use Rattle.std.specs.Prelude.{◌≡◌, [], ◌∷◌, ◌/◌, length};
 ghost use Rattle.theory.specs.Overlaps.{Among};
 ghost use Rattle.layout.specs.Header.{rank_of};
 ghost use Rattle.layout.specs.Relations.{presentation};
-ghost use Rattle.placing.specs.Ready.{Ground};
-ghost use Rattle.consistency.specs.Check.{overlap_of, judgement, Said};
-ghost use Rattle.consistency.specs.Check.{same as same_vector};
+ghost use Rattle.consistency.specs.Sides.{left_pieces, right_pieces};
+ghost use Rattle.consistency.specs.Check.{overlap_of, side_outcome, decide, checked_of};
+ghost use Rattle.consistency.specs.Collected.{collected, both};
 
-use crate::sides::{collect_side, left_of, right_of};
-use crate::{Judged, Overlap};
-use layout::View;
+use crate::sides::{collect_side, sides_of};
+use crate::{Checked, Overlap, Verdict};
+use layout::{Group, Refusal};
 
-// Whether two vectors have the same entries.
-fn same(left: &[u8], right: &[u8]) -> bool
-    requires { length left.now ≡ length right.now }
-    ensures { result ≡ same_vector left.now right.now }
-{
-    let mut at: usize = 0;
-    while at < left.len() {
-        if left[at] != right[at] {
-            return false;
-        }
-        at += 1;
-    }
-    true
-}
-
-// Collects the left side of the overlap, then its right side, each with the whole budget and the whole room, and compares. The vectors
-// are what the sides were collected to.
-pub fn judge_overlap(
-    numbers: &[u16],
-    view: View,
-    bodies: &[u16],
+// The two vectors that the sides of an overlap are collected to, "left side first", each with the whole budget and the whole room.
+fn collect_sides(
+    group: Group,
     o: Overlap,
-    left: &mut [u8],
-    right: &mut [u8],
     budget: u32,
     work: &mut [u16],
-) -> Judged
-    requires ground { Ground numbers.now view bodies.now [] }
-    requires among { Among (presentation numbers.now) 1 (overlap_of o) }
-    requires left_len { (length left.old ≡ rank_of numbers.now) × (length right.old ≡ rank_of numbers.now) }
-    ensures work_len_unchanged { length work.new ≡ length work.old }
-    ensures said { Said (judgement numbers.now budget (length work.old / 3) (overlap_of o)) result left.new right.new }
+) -> Result<([u8; 40], [u8; 40]), Refusal>
+    requires { Among (presentation group.numbers.now) 1 (overlap_of o) }
+    ensures { let nums = group.entry.numbers.now in
+        let room = length work.old / 3 in
+        result ≡ both (collected (rank_of nums) (side_outcome nums budget room (left_pieces nums (overlap_of o))))
+        (collected (rank_of nums) (side_outcome nums budget room (right_pieces nums (overlap_of o)))) }
 {
-    let first = collect_side(
-        numbers,
-        view,
-        bodies,
-        left_of(numbers, view, o),
+    let (first, second) = sides_of(group, o);
+    let left = collect_side(group, first, budget, work)?;
+    let right = collect_side(group, second, budget, work)?;
+    Ok((left, right))
+}
+
+// The verdict where the overlap o is the only one.
+pub fn judge_overlap(group: Group, o: Overlap, budget: u32, work: &mut [u16]) -> Checked
+    requires { Among (presentation group.numbers.now) 1 (overlap_of o) }
+    ensures { let nums = group.entry.numbers.now in
+        result ≡ checked_of (rank_of nums) (decide nums budget (length work.old / 3) (overlap_of o ∷ [])) }
+{
+    let (left, right) = match collect_sides(group, o, budget, work) {
+        Ok(sides) => sides,
+        Err(refusal) => return Checked::without_vectors(Verdict::Stopped(refusal, o)),
+    };
+    if left == right {
+        return Checked::without_vectors(Verdict::Pass);
+    }
+    Checked {
+        verdict: Verdict::Differs(o),
         left,
-        budget,
-        work,
-    );
-    if first.number != 0 {
-        return Judged::Stop(first.number);
-    }
-    let second = collect_side(
-        numbers,
-        view,
-        bodies,
-        right_of(numbers, view, o),
         right,
-        budget,
-        work,
-    );
-    if second.number != 0 {
-        return Judged::Stop(second.number);
     }
-    if same(left, right) {
-        return Judged::Agree;
-    }
-    Judged::Differ
 }

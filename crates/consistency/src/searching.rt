@@ -1,204 +1,87 @@
 // The order of the overlaps, and the first one that settles the verdict: "Overlaps in order; within a family, i slowest, then j, then k, each
 // rising". Inner functions of this crate.
-ghost use Rattle.std.specs.Prelude.{◌≡◌, [], ◌∷◌, ◌/◌, length};
-ghost use Rattle.theory.specs.Overlaps.{Among};
+ghost use Rattle.std.specs.Prelude.{◌≡◌, ◌/◌, length};
 ghost use Rattle.layout.specs.Header.{rank_of};
-ghost use Rattle.layout.specs.Relations.{presentation};
-ghost use Rattle.placing.specs.Ready.{Ground};
-ghost use Rattle.consistency.specs.Check.{overlap_of, decide, decision, Found, settled, triples_of, pairs_of, singles_of};
+ghost use Rattle.consistency.specs.Check.{decide, decision, checked_of, triples_of, pairs_of, singles_of};
 
 use crate::judging::judge_overlap;
-use crate::{Family, Judged, Overlap, Verdict};
-use layout::{Generator, View};
-
-// The verdict so far: at the overlap o.
-fn verdict_at(
-    numbers: &[u16],
-    view: View,
-    bodies: &[u16],
-    o: Overlap,
-    left: &mut [u8],
-    right: &mut [u8],
-    budget: u32,
-    work: &mut [u16],
-) -> Verdict
-    requires ground { Ground numbers.now view bodies.now [] }
-    requires among { Among (presentation numbers.now) 1 (overlap_of o) }
-    requires left_len { (length left.old ≡ rank_of numbers.now) × (length right.old ≡ rank_of numbers.now) }
-    ensures work_len_unchanged { length work.new ≡ length work.old }
-    ensures found { Found (decide numbers.now budget (length work.old / 3) (overlap_of o ∷ [])) result left.new right.new }
-{
-    match judge_overlap(numbers, view, bodies, o, left, right, budget, work) {
-        Judged::Agree => Verdict::Pass,
-        Judged::Differ => Verdict::Differs(o),
-        Judged::Stop(number) => Verdict::Stopped(number, o),
-    }
-}
-
-// Whether the verdict is not PASS.
-fn settles(verdict: Verdict) -> bool
-    ensures { result ≡ settled verdict }
-{
-    match verdict {
-        Verdict::Pass => false,
-        Verdict::Differs(o) => true,
-        Verdict::Refused(number) => true,
-        Verdict::Stopped(number, o) => true,
-    }
-}
+use crate::{Checked, Family, Overlap, Verdict};
+use layout::{Generator, Group};
 
 // "1. i < j < k".
-pub fn search_triples(
-    numbers: &[u16],
-    view: View,
-    bodies: &[u16],
-    left: &mut [u8],
-    right: &mut [u8],
-    budget: u32,
-    work: &mut [u16],
-) -> Verdict
-    requires ground { Ground numbers.now view bodies.now [] }
-    requires left_len { (length left.old ≡ rank_of numbers.now) × (length right.old ≡ rank_of numbers.now) }
-    ensures work_len_unchanged { length work.new ≡ length work.old }
-    ensures found { Found (decide numbers.now budget (length work.old / 3) (triples_of (rank_of numbers.now)))
-        result left.new right.new }
+pub fn search_triples(group: Group, budget: u32, work: &mut [u16]) -> Checked
+    ensures { let nums = group.entry.numbers.now in
+        result ≡ checked_of (rank_of nums) (decide nums budget (length work.old / 3) (triples_of (rank_of nums))) }
 {
-    let mut verdict = Verdict::Pass;
-    let mut i: u16 = 1;
-    'search: while i <= view.rank.0 {
-        let mut j = i + 1;
-        while j <= view.rank.0 {
-            let mut k = j + 1;
-            while k <= view.rank.0 {
+    let n = group.view.rank.0; // where i or j is n, no k is left
+    let mut checked = Checked::without_vectors(Verdict::Pass);
+    'search: for i in 1..=n {
+        for j in i + 1..=n {
+            for k in j + 1..=n {
                 let o = Overlap::Triple(Generator(i), Generator(j), Generator(k));
-                verdict = verdict_at(numbers, view, bodies, o, left, right, budget, work);
-                if settles(verdict) {
+                checked = judge_overlap(group, o, budget, work);
+                if checked.verdict != Verdict::Pass {
                     break 'search;
                 }
-                k += 1;
             }
-            j += 1;
         }
-        i += 1;
     }
-    verdict
+    checked
 }
 
 // "2. i < j" and "3. i < j".
-pub fn search_pairs(
-    numbers: &[u16],
-    view: View,
-    bodies: &[u16],
-    family: Family,
-    left: &mut [u8],
-    right: &mut [u8],
-    budget: u32,
-    work: &mut [u16],
-) -> Verdict
-    requires ground { Ground numbers.now view bodies.now [] }
-    requires left_len { (length left.old ≡ rank_of numbers.now) × (length right.old ≡ rank_of numbers.now) }
-    ensures work_len_unchanged { length work.new ≡ length work.old }
-    ensures found { Found (decide numbers.now budget (length work.old / 3) (pairs_of family (rank_of numbers.now)))
-        result left.new right.new }
+pub fn search_pairs(group: Group, family: Family, budget: u32, work: &mut [u16]) -> Checked
+    ensures { let nums = group.entry.numbers.now in
+        result ≡ checked_of (rank_of nums) (decide nums budget (length work.old / 3) (pairs_of family (rank_of nums))) }
 {
-    let mut verdict = Verdict::Pass;
-    let mut i: u16 = 1;
-    'search: while i <= view.rank.0 {
-        let mut j = i + 1;
-        while j <= view.rank.0 {
+    let n = group.view.rank.0;
+    let mut checked = Checked::without_vectors(Verdict::Pass);
+    'search: for i in 1..=n {
+        for j in i + 1..=n {
             let o = Overlap::Pair(family, Generator(i), Generator(j));
-            verdict = verdict_at(numbers, view, bodies, o, left, right, budget, work);
-            if settles(verdict) {
+            checked = judge_overlap(group, o, budget, work);
+            if checked.verdict != Verdict::Pass {
                 break 'search;
             }
-            j += 1;
         }
-        i += 1;
     }
-    verdict
+    checked
 }
 
 // "4. i".
-pub fn search_singles(
-    numbers: &[u16],
-    view: View,
-    bodies: &[u16],
-    left: &mut [u8],
-    right: &mut [u8],
-    budget: u32,
-    work: &mut [u16],
-) -> Verdict
-    requires ground { Ground numbers.now view bodies.now [] }
-    requires left_len { (length left.old ≡ rank_of numbers.now) × (length right.old ≡ rank_of numbers.now) }
-    ensures work_len_unchanged { length work.new ≡ length work.old }
-    ensures found { Found (decide numbers.now budget (length work.old / 3) (singles_of (rank_of numbers.now)))
-        result left.new right.new }
+pub fn search_singles(group: Group, budget: u32, work: &mut [u16]) -> Checked
+    ensures { let nums = group.entry.numbers.now in
+        result ≡ checked_of (rank_of nums) (decide nums budget (length work.old / 3) (singles_of (rank_of nums))) }
 {
-    let mut verdict = Verdict::Pass;
-    let mut i: u16 = 1;
-    'search: while i <= view.rank.0 {
-        verdict = verdict_at(
-            numbers,
-            view,
-            bodies,
-            Overlap::Single(Generator(i)),
-            left,
-            right,
-            budget,
-            work,
-        );
-        if settles(verdict) {
+    let n = group.view.rank.0;
+    let mut checked = Checked::without_vectors(Verdict::Pass);
+    'search: for i in 1..=n {
+        let o = Overlap::Single(Generator(i));
+        checked = judge_overlap(group, o, budget, work);
+        if checked.verdict != Verdict::Pass {
             break 'search;
         }
-        i += 1;
     }
-    verdict
+    checked
 }
 
-// All overlaps, the families in their order.
-pub fn search(
-    numbers: &[u16],
-    view: View,
-    bodies: &[u16],
-    left: &mut [u8],
-    right: &mut [u8],
-    budget: u32,
-    work: &mut [u16],
-) -> Verdict
-    requires ground { Ground numbers.now view bodies.now [] }
-    requires left_len { (length left.old ≡ rank_of numbers.now) × (length right.old ≡ rank_of numbers.now) }
-    ensures work_len_unchanged { length work.new ≡ length work.old }
-    ensures found { Found (decision numbers.now budget (length work.old / 3)) result left.new right.new }
+// All overlaps, the families in their order. Four steps written out: closures that each borrow the workspace would need a bound and clauses
+// for what three returns say.
+pub fn search(group: Group, budget: u32, work: &mut [u16]) -> Checked
+    ensures { let nums = group.entry.numbers.now in
+        result ≡ checked_of (rank_of nums) (decision nums budget (length work.old / 3)) }
 {
-    let triples = search_triples(numbers, view, bodies, left, right, budget, work);
-    if settles(triples) {
+    let triples = search_triples(group, budget, work);
+    if triples.verdict != Verdict::Pass {
         return triples;
     }
-    let uppers = search_pairs(
-        numbers,
-        view,
-        bodies,
-        Family::Upper,
-        left,
-        right,
-        budget,
-        work,
-    );
-    if settles(uppers) {
+    let uppers = search_pairs(group, Family::Upper, budget, work);
+    if uppers.verdict != Verdict::Pass {
         return uppers;
     }
-    let lowers = search_pairs(
-        numbers,
-        view,
-        bodies,
-        Family::Lower,
-        left,
-        right,
-        budget,
-        work,
-    );
-    if settles(lowers) {
+    let lowers = search_pairs(group, Family::Lower, budget, work);
+    if lowers.verdict != Verdict::Pass {
         return lowers;
     }
-    search_singles(numbers, view, bodies, left, right, budget, work)
+    search_singles(group, budget, work)
 }

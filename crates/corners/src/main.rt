@@ -13,97 +13,33 @@ mod work; // the workspace before and after a call
 use answer::line_for;
 use collector::{collect, depth, inverse, product};
 use layout::{Generator, judge, word_of};
-use report::{print_answer, print_check, print_number};
+use report::{number_of, print_answer, print_check};
 use std::io;
 use std::rt::Files;
-use table::{
-    before, begins, decimal, entries_in, field, initial, numbers_in, read_file, read_numbers,
-};
-use total::{number_at, print_numbers, stretch, to_word};
-use work::{soil, state_of};
+use table::{before, decimal, field, numbers_in, read_file, read_numbers};
+use total::{part_mut, print_row};
+use work::{SOIL, state_of};
 
 // The presentation's number, 0 to 6.
 fn judge_it(rt: &impl Print, numbers: &[u16]) -> io::Result<()> {
-    print_number(rt, judge(numbers) as u64)
+    let number = number_of(judge(numbers));
+    print!(rt; " {number}")
 }
 
 // The word of the pair i j.
 fn fetch(rt: &impl Print, line: &[u8], numbers: &[u16]) -> io::Result<()> {
     let mut pair = [0u16; 2];
     numbers_in(field(line, 3), &mut pair);
-    let i = to_word(number_at(&pair, 0));
-    let j = to_word(number_at(&pair, 1));
-    print_numbers(rt, word_of(numbers, Generator(i), Generator(j)))
+    print_row(rt, word_of(numbers, Generator(pair[0]), Generator(pair[1])))
 }
 
-// The depth of a vector, after the number.
+// The depth of a vector, after the number; 0 where it is refused.
 fn fathom(rt: &impl Print, line: &[u8], numbers: &[u16]) -> io::Result<()> {
-    let mut vector = [0u8; 64];
-    let n = entries_in(field(line, 3), &mut vector);
-    let answer = depth(numbers, &vector[..n]);
-    print_number(rt, answer.number as u64)?;
-    print_number(rt, answer.depth as u64)
-}
-
-fn collect_in(
-    rt: &impl Print,
-    numbers: &[u16],
-    vector: &mut [u8],
-    word: &[u16],
-    budget: u32,
-    work: &mut [u16],
-) -> io::Result<()> {
-    let answer = collect(numbers, vector, word, budget, work);
-    print_answer(rt, answer, vector, state_of(work))
-}
-
-fn collect_it(
-    rt: &impl Print,
-    line: &[u8],
-    numbers: &[u16],
-    vector: &mut [u8],
-    budget: u32,
-    work: &mut [u16],
-) -> io::Result<()> {
-    let mut word = [0u16; 8200];
-    let n = numbers_in(field(line, 4), &mut word);
-    collect_in(rt, numbers, vector, &word[..n], budget, work)
-}
-
-fn multiply_in(
-    rt: &impl Print,
-    numbers: &[u16],
-    left: &mut [u8],
-    right: &[u8],
-    budget: u32,
-    work: &mut [u16],
-) -> io::Result<()> {
-    let answer = product(numbers, left, right, budget, work);
-    print_answer(rt, answer, left, state_of(work))
-}
-
-fn multiply(
-    rt: &impl Print,
-    line: &[u8],
-    numbers: &[u16],
-    vector: &mut [u8],
-    budget: u32,
-    work: &mut [u16],
-) -> io::Result<()> {
-    let mut right = [0u8; 64];
-    let n = entries_in(field(line, 4), &mut right);
-    multiply_in(rt, numbers, vector, &right[..n], budget, work)
-}
-
-fn invert(
-    rt: &impl Print,
-    numbers: &[u16],
-    vector: &mut [u8],
-    budget: u32,
-    work: &mut [u16],
-) -> io::Result<()> {
-    let answer = inverse(numbers, vector, budget, work);
-    print_answer(rt, answer, vector, state_of(work))
+    let mut room = [0u8; 64];
+    let answer = depth(numbers, numbers_in(field(line, 3), &mut room));
+    let number = number_of(answer);
+    let depth = answer.unwrap_or(0);
+    print!(rt; " {number} {depth}")
 }
 
 // The calls that change a vector.
@@ -111,27 +47,30 @@ fn change(
     rt: &impl Print,
     line: &[u8],
     numbers: &[u16],
-    vector: &mut [u8],
     budget: u32,
     work: &mut [u16],
 ) -> io::Result<()> {
-    match initial(field(line, 1)) {
-        b'c' => collect_it(rt, line, numbers, vector, budget, work),
-        b'p' => multiply(rt, line, numbers, vector, budget, work),
-        _ => invert(rt, numbers, vector, budget, work),
-    }
-}
-
-fn change_vector(
-    rt: &impl Print,
-    line: &[u8],
-    numbers: &[u16],
-    budget: u32,
-    work: &mut [u16],
-) -> io::Result<()> {
-    let mut vector = [0u8; 64];
-    let n = entries_in(field(line, 3), &mut vector);
-    change(rt, line, numbers, &mut vector[..n], budget, work)
+    let mut room = [0u8; 64];
+    let vector = numbers_in(field(line, 3), &mut room);
+    let beside = field(line, 4);
+    let answer = match field(line, 1) {
+        [b'c', ..] => {
+            let mut word = [0u16; 8200];
+            collect(numbers, vector, numbers_in(beside, &mut word), budget, work)
+        }
+        [b'p', ..] => {
+            let mut right = [0u8; 64];
+            product(
+                numbers,
+                vector,
+                numbers_in(beside, &mut right),
+                budget,
+                work,
+            )
+        }
+        _ => inverse(numbers, vector, budget, work),
+    };
+    print_answer(rt, answer, vector, state_of(work))
 }
 
 // The check is asked through the line that tells its verdict.
@@ -141,73 +80,48 @@ fn check_it(
     budget: u32,
     work: &mut [u16],
 ) -> io::Result<()> {
-    let mut bytes = [0u8; 45926];
-    let n = read_file(rt, field(line, 2), &mut bytes);
+    let mut room = [0u8; 45926];
+    let bytes = read_file(rt, field(line, 2), &mut room);
     let mut numbers = [0u16; 22962];
-    let mut out = [0u8; 2048];
-    line_for(&bytes[..n], &mut numbers, budget, work, &mut out);
-    print_check(rt, before(&out, b'\n'), state_of(work))
+    let told = line_for(bytes, &mut numbers, budget, work);
+    print_check(rt, before(told.as_str().as_bytes(), b'\n'), state_of(work))
 }
 
-// A budget of 32 bits.
-fn to_budget(x: u64) -> u32 {
-    if x > 4294967295 {
-        return 0;
+// The calls that take a workspace: the check, named "verdict", and those that change a vector. A budget past 32 bits is 0.
+fn with_work(rt: &(impl Files + Print), line: &[u8], numbers: &[u16]) -> io::Result<()> {
+    let mut room = [0u16; 24576];
+    let work = part_mut(&mut room, decimal(field(line, 6)) as usize);
+    work.fill(SOIL);
+    let budget = u32::try_from(decimal(field(line, 5))).unwrap_or(0);
+    match field(line, 1) {
+        [b'v', ..] => check_it(rt, line, budget, work),
+        _ => change(rt, line, numbers, budget, work),
     }
-    x as u32
-}
-
-// The calls that take a workspace: the check, named "verdict", and those that change a vector.
-fn with_work(
-    rt: &(impl Files + Print),
-    line: &[u8],
-    numbers: &[u16],
-    work: &mut [u16],
-) -> io::Result<()> {
-    soil(work);
-    let budget = to_budget(decimal(field(line, 5)));
-    if initial(field(line, 1)) == b'v' {
-        check_it(rt, line, budget, work)
-    } else {
-        change_vector(rt, line, numbers, budget, work)
-    }
-}
-
-fn with_room(rt: &(impl Files + Print), line: &[u8], numbers: &[u16]) -> io::Result<()> {
-    let mut work = [0u16; 24576];
-    let n = stretch(decimal(field(line, 6)) as usize, &work);
-    with_work(rt, line, numbers, &mut work[..n])
 }
 
 fn with_numbers(rt: &(impl Files + Print), line: &[u8], numbers: &[u16]) -> io::Result<()> {
-    match initial(field(line, 1)) {
-        b'j' => judge_it(rt, numbers),
-        b'w' => fetch(rt, line, numbers),
-        b'd' => fathom(rt, line, numbers),
-        _ => with_room(rt, line, numbers),
+    match field(line, 1) {
+        [b'j', ..] => judge_it(rt, numbers),
+        [b'w', ..] => fetch(rt, line, numbers),
+        [b'd', ..] => fathom(rt, line, numbers),
+        _ => with_work(rt, line, numbers),
     }
 }
 
 fn call(rt: &(impl Files + Print), line: &[u8]) -> io::Result<()> {
     rt.write_all(field(line, 0))?;
     print!(rt; ":")?;
-    let mut numbers = [0u16; 22963];
-    let n = read_numbers(rt, field(line, 2), &mut numbers);
-    with_numbers(rt, line, &numbers[..n])?;
+    let mut room = [0u16; 22963];
+    let numbers = read_numbers(rt, field(line, 2), &mut room);
+    with_numbers(rt, line, numbers)?;
     println!(rt)
 }
 
-fn calls(rt: &(impl Files + Print), table: &[u8]) -> io::Result<()> {
-    for at in 0..table.len() {
-        if begins(table, at, b'\n') {
-            call(rt, before(&table[at..], b'\n'))?;
-        }
+fn main(rt: HostRuntime) -> io::Result<()> {
+    let mut room = [0u8; 131072];
+    let table = read_file(&rt, b"calls", &mut room);
+    for line in table.split_inclusive(|byte| *byte == b'\n') {
+        call(&rt, before(line, b'\n'))?;
     }
     Ok(())
-}
-
-fn main(rt: HostRuntime) -> io::Result<()> {
-    let mut table = [0u8; 131072];
-    let n = read_file(&rt, b"calls", &mut table);
-    calls(&rt, &table[..n])
 }

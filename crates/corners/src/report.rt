@@ -1,19 +1,15 @@
 // Printing what came back.
 use crate::work::State;
-use collector::Answer;
+use collector::{Answer, Refused};
+use layout::Refusal;
 use std::io;
-use total::print_entries;
+use total::print_row;
 
-pub fn print_number(rt: &impl Print, x: u64) -> io::Result<()> {
-    print!(rt; " {x}")
-}
-
-fn print_state(rt: &impl Print, state: State) -> io::Result<()> {
-    match state {
-        State::Nothing => print!(rt; "; no work"),
-        State::Zero => print!(rt; "; work zero"),
-        State::Kept => print!(rt; "; work kept"),
-        State::Mixed => print!(rt; "; work mixed"),
+// The number of a refusal, 0 for none.
+pub fn number_of<T: Drop>(answer: Result<T, Refusal>) -> u8 {
+    match answer {
+        Ok(_) => 0,
+        Err(refusal) => u8::from(refusal),
     }
 }
 
@@ -24,17 +20,18 @@ pub fn print_answer(
     vector: &[u8],
     state: State,
 ) -> io::Result<()> {
-    print_number(rt, answer.number as u64)?;
-    print!(rt; "; count")?;
-    print_number(rt, answer.count as u64)?;
-    print!(rt; "; vector")?;
-    print_entries(rt, vector)?;
-    print_state(rt, state)
+    let (number, count) = match answer {
+        Ok(count) => (0, count),
+        Err(Refused { refusal, count }) => (u8::from(refusal), count),
+    };
+    print!(rt; " {number}; count {count}; vector")?;
+    print_row(rt, vector)?;
+    print!(rt; "; {state}")
 }
 
 // The check's line, and the workspace.
 pub fn print_check(rt: &impl Print, line: &[u8], state: State) -> io::Result<()> {
     print!(rt; " ")?;
     rt.write_all(line)?;
-    print_state(rt, state)
+    print!(rt; "; {state}")
 }

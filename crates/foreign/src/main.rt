@@ -3,97 +3,65 @@
 // tools/foreign_tables.py from tables of GAP and of exact matrices: nothing in it was computed by this collector.
 #![tactic(auto)]
 
-use collector::{inverse, product};
+use collector::{Answer, inverse, product};
 use pcp_run::print_line;
 use std::io;
 use std::rt::Files;
-use table::{before, begins, entries_in, field, initial, read_file, read_numbers};
-use total::print_entries;
+use table::{before, field, numbers_in, read_file, read_numbers};
+use total::print_row;
 
 // More than any of these calls needs; one that needs more is printed as refused.
 const BUDGET: u32 = 1000000;
 
 // What came back: the vector, or the number of the refusal.
-fn print_answer(rt: &impl Print, number: u8, vector: &[u8]) -> io::Result<()> {
-    if number != 0 {
-        print!(rt; " refused {number}")?;
-    } else {
-        print_entries(rt, vector)?;
+fn print_answer(rt: &impl Print, answer: Answer, vector: &[u8]) -> io::Result<()> {
+    match answer {
+        Ok(_) => print_row(rt, vector)?,
+        Err(refused) => {
+            let number = u8::from(refused.refusal);
+            print!(rt; " refused {number}")?;
+        }
     }
     println!(rt)
 }
 
-fn multiply_in(
-    rt: &impl Print,
-    numbers: &[u16],
-    left: &mut [u8],
-    right: &[u8],
-    work: &mut [u16],
-) -> io::Result<()> {
-    let answer = product(numbers, left, right, BUDGET, work);
-    print_answer(rt, answer.number, left)
-}
-
-// u times v.
-fn multiply(rt: &impl Print, line: &[u8], numbers: &[u16], work: &mut [u16]) -> io::Result<()> {
-    let mut left = [0u8; 40];
-    let n = entries_in(field(line, 2), &mut left);
-    let mut right = [0u8; 40];
-    let m = entries_in(field(line, 3), &mut right);
-    multiply_in(rt, numbers, &mut left[..n], &right[..m], work)
-}
-
-fn invert_in(
-    rt: &impl Print,
-    numbers: &[u16],
-    vector: &mut [u8],
-    work: &mut [u16],
-) -> io::Result<()> {
-    let answer = inverse(numbers, vector, BUDGET, work);
-    print_answer(rt, answer.number, vector)
-}
-
-// The inverse of u.
-fn invert(rt: &impl Print, line: &[u8], numbers: &[u16], work: &mut [u16]) -> io::Result<()> {
-    let mut vector = [0u8; 40];
-    let n = entries_in(field(line, 2), &mut vector);
-    invert_in(rt, numbers, &mut vector[..n], work)
-}
-
-// The presentation of the file, and room for 8,192 slots.
-fn presented(rt: &(impl Files + Print), line: &[u8], numbers: &mut [u16]) -> io::Result<()> {
-    let n = read_numbers(rt, field(line, 1), numbers);
+// u times v, or the inverse of u, as the line asks. There is room for 8,192 slots.
+fn change(rt: &impl Print, line: &[u8], numbers: &[u16]) -> io::Result<()> {
     let mut work = [0u16; 24576];
-    if initial(line) == b'p' {
-        multiply(rt, line, &numbers[..n], &mut work)
-    } else {
-        invert(rt, line, &numbers[..n], &mut work)
-    }
+    let mut room = [0u8; 40];
+    let vector = numbers_in(field(line, 2), &mut room);
+    let answer = match line {
+        [b'p', ..] => {
+            let mut room = [0u8; 40];
+            let right = numbers_in(field(line, 3), &mut room);
+            product(numbers, vector, right, BUDGET, &mut work)
+        }
+        _ => inverse(numbers, vector, BUDGET, &mut work),
+    };
+    print_answer(rt, answer, vector)
 }
 
 // A call: "group" and a file, "product", a file, u and v, or "inverse", a file and u.
 fn call(rt: &(impl Files + Print), line: &[u8]) -> io::Result<()> {
     rt.write_all(line)?;
     print!(rt; " =")?;
-    if initial(line) == b'g' {
-        print!(rt; " ")?;
-        return print_line(rt, field(line, 1));
-    }
-    let mut numbers = [0u16; 22962];
-    presented(rt, line, &mut numbers)
-}
-
-fn calls(rt: &(impl Files + Print), table: &[u8]) -> io::Result<()> {
-    for at in 0..table.len() {
-        if begins(table, at, b'\n') {
-            call(rt, before(&table[at..], b'\n'))?;
+    match line {
+        [b'g', ..] => {
+            print!(rt; " ")?;
+            print_line(rt, field(line, 1))
+        }
+        _ => {
+            let mut numbers = [0u16; 22962];
+            change(rt, line, read_numbers(rt, field(line, 1), &mut numbers))
         }
     }
-    Ok(())
 }
 
 fn main(rt: HostRuntime) -> io::Result<()> {
-    let mut table = [0u8; 65536];
-    let n = read_file(&rt, b"calls", &mut table);
-    calls(&rt, &table[..n])
+    let mut room = [0u8; 65536];
+    let table = read_file(&rt, b"calls", &mut room);
+    for line in table.split_inclusive(|byte| *byte == b'\n') {
+        call(&rt, before(line, b'\n'))?;
+    }
+    Ok(())
 }

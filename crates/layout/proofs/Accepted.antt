@@ -1,7 +1,7 @@
 -- What is known of numbers that were judged 0: for this crate's words and for the crates above.
 --
 -- Main results: `Accepted`, `accepted`.
-use mathlib.Core.Path.{◌≡◌, refl, ap, ◌∙◌}
+use mathlib.Core.Path.{◌≡◌, refl}
 use mathlib.Core.List.{List}
 use mathlib.Core.Bool.{Bool, true, false, ◌&&◌}
 use Prim.Native.Nat.{ℕ, ◌<◌, ◌≤◌}
@@ -9,8 +9,7 @@ use native.Mathlib.Omega.{arith}
 use borrow.Author.Tests.{leb-true, ltb-false, eqb-true}
 use lib.ListN.{length}
 use lib.Dec.{leb, ltb}
-use Rattle.layout.specs.declared.View.{View}
-use Rattle.layout.specs.Header.{Seen, prime_of, rank_of, bodies_at, entries}
+use Rattle.layout.specs.Header.{prime_of, rank_of, bodies_at, entries}
 use Rattle.layout.specs.Prime.{Prime}
 use Rattle.layout.specs.Contents.{Measured, place_of, starts_right, contents_right}
 use Rattle.layout.specs.Bodies.{bodies_right}
@@ -63,13 +62,7 @@ accepted nums h =
       bodies = t.bodies;
     }
 
--- The place that the code finds for (i, j) by the view is the entry's place, and one of the contents.
-pub record Found (nums : List ℕ) (i j r : ℕ) : Type 0 where
-  pub place : r ≡ place_of (rank_of nums) i j
-  pub listed : r < entries (rank_of nums)
-
-pub found : (nums : List ℕ) (view : View) (i j r : ℕ) → judged nums ≡ 0 → Seen nums view
-    → (1 ≤ i) × (i ≤ j) × (j ≤ rank_of nums) → r ≡ place_of view.rank.0 i j → Found nums i j r
-found nums view i j r h s b e =
-    let q : r ≡ place_of (rank_of nums) i j = e ∙ ap (λ (n : ℕ). place_of n i j) s.rank in
-    record { place = q; listed = rw q (place-fits (rank_of nums) i j (accepted nums h).measured.most b.0 b.1 b.2) }
+-- The place of (i, j) is one of the contents.
+pub place_listed : (nums : List ℕ) (i j : ℕ) → judged nums ≡ 0 → 1 ≤ i → i ≤ j → j ≤ rank_of nums
+    → place_of (rank_of nums) i j < entries (rank_of nums)
+place_listed nums i j h = place-fits (rank_of nums) i j (accepted nums h).measured.most

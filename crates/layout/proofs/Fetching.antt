@@ -1,11 +1,11 @@
--- Fetching a relation's word: which calls are refused, and what comes back.
+-- Fetching a relation's word: which pairs name one, and what comes back.
 --
--- Main results: `unaccepted`, `unnamed`, `fetches` with the answers `refused-word` and `fetched-word`; `named`.
+-- Main results: `named`, `by-pair`, `fetched-word`.
 use mathlib.Core.Path.{◌≡◌, sym, ap}
 use mathlib.Core.List.{List, []}
 use mathlib.Core.Bool.{Bool, true, false, ◌&&◌}
 use Prim.Native.Nat.{ℕ, ◌≤◌}
-use borrow.Author.Tests.{leb-true, eq-eqb, ne_eqb}
+use borrow.Author.Tests.{leb-true, eq-eqb}
 use lib.Dec.{leb}
 use Rattle.layout.specs.Header.{rank_of}
 use Rattle.layout.specs.Contents.{place_of, body_at, stretch_of}
@@ -19,20 +19,11 @@ named n i j h =
     (leb-true 1 i (and_left _ (leb i j && leb j n) h), leb-true i j (and_left _ (leb j n) t), leb-true j n (and_right (leb i j) _ t))
 
 module _ (nums : List ℕ) (i j : ℕ) where
-  pub unaccepted : (judged nums ≡ 0 → ⊥) → fetched nums i j ≡ false
-  unaccepted h = ap (λ (b : Bool). elim b as (λ x. Bool) [ true ↦ names_relation (rank_of nums) i j | false ↦ false ]) (ne_eqb (judged nums) 0 h)
-
   -- For accepted numbers the pair alone decides.
   pub by-pair : judged nums ≡ 0 → fetched nums i j ≡ names_relation (rank_of nums) i j
   by-pair h = ap (λ (b : Bool). elim b as (λ x. Bool) [ true ↦ names_relation (rank_of nums) i j | false ↦ false ]) (eq-eqb (judged nums) 0 h)
 
-  -- What a stretch lies at and holds, as the fetching code gives it.
-  pub refused-word : fetched nums i j ≡ false → ([] ≡ word_of nums i j) × (0 ≡ word_at nums i j)
-  refused-word h = (
-    sym (ap (λ (b : Bool). elim b as (λ x. List ℕ) [ true ↦ stretch_of nums i j | false ↦ [] ]) h),
-    sym (ap (λ (b : Bool). elim b as (λ x. ℕ) [ true ↦ body_at nums (place_of (rank_of nums) i j) | false ↦ 0 ]) h),
-  )
-
+  -- What the fetched stretch holds, and what it lies at.
   pub fetched-word : fetched nums i j ≡ true
       → (stretch_of nums i j ≡ word_of nums i j) × (body_at nums (place_of (rank_of nums) i j) ≡ word_at nums i j)
   fetched-word h = (

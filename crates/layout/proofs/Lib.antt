@@ -1,4 +1,4 @@
--- The laws of the lent layout. For the crates above: `Accepted`, `Bounds`, `Relations` and `Valid`, `Pairs` for strings of pairs,
+-- The laws of the lent layout. For the crates above: `Accepted`, `Bounds`, `Relations` and `Valid`, `Pairs` for the pairs of a stretch,
 -- `Views`, `Outcomes`. The others are steps on the way.
 pub mod Every
 pub mod Views
@@ -6,12 +6,12 @@ pub mod Primes
 pub mod Rows
 pub mod Stretches
 pub mod Pairs
-pub mod Rules
 pub mod Cascade
 pub mod Accepted
 pub mod Fetching
 pub mod Relations
 pub mod Valid
 pub mod Bounds
+pub mod Refusals
 pub mod Outcomes
 pub mod Examples

@@ -4,6 +4,7 @@ use contract.Lifetimes.{Lfts}
 use borrow.Fn.World as World
 use denote.Triple.Clauses as Clauses
 use borrow.Fn.Kinds as Kinds
+use Rattle.layout.proofs.Refusals.{given-once}
 use Rattle.layout.specs.contracts.judging.judge as judge
 use Rattle.layout.proofs.judging.judge.Kinds as judge-kinds
 use Rattle.layout.proofs.judging.judge.Reads as judge-reads
@@ -14,7 +15,7 @@ use Rattle.layout.proofs.words.word_of.Reads as word-of-reads
 pub judge-one : (κs : Lfts 1) (a : World.ArgsD judge.signature κs) (r s : World.ResD judge.signature κs)
     (x y : Clauses.AtExit (Kinds.ended_of 1 judge-kinds.ps judge-kinds.r) κs)
     → judge-reads.Post κs a r x → judge-reads.Post κs a s y → r ≡ s
-judge-one κs a r s x y p q = p ∙ sym q
+judge-one κs a r s x y p q = given-once r s (p ∙ sym q)
 
 -- Of a fetched stretch: what it holds, and where it lies.
 pub word-of-one : (κs : Lfts 1) (a : World.ArgsD word_of.signature κs) (r s : World.ResD word_of.signature κs)

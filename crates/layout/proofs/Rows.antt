@@ -1,7 +1,7 @@
 -- The rows of the contents, and where an entry stands among them. The closed form of their number is held against the rows by one
 -- computed test over every rank.
 --
--- Main results: `rows_all`, `in_row`, `located`.
+-- Main results: `rows_all`, `among`, `in_row`, `located`.
 use mathlib.Core.Path.{◌≡◌, refl}
 use mathlib.Core.Bool.{Bool, true, false}
 use Prim.Native.Nat.{ℕ, zero, suc, ◌+◌, ◌-◌, ◌*◌, ◌<◌, ◌≤◌}
@@ -34,21 +34,21 @@ entries-some n l =
     let z : 1 * 2 ≤ n * (n + 1) = mul-le-mul l m in
     omega arith
 
--- A row ends where the next begins, and no later row begins before that.
-row-end : (n k i : ℕ) → i < k → row_at n i + (n - i) ≤ row_at n k
-row-end n zero i h = absurd (omega arith)
-row-end n (suc k) i h = go (dec_le k i) (λ l. row-end n k i l)
+-- A term of a running sum is among the terms summed up later.
+pub among : (s f : ℕ → ℕ) → ((k : ℕ) → s (suc k) ≡ s k + f k) → (m k : ℕ) → k < m → s k + f k ≤ s m
+among s f step zero k h = absurd (omega arith)
+among s f step (suc m) k h = go (dec_le m k) (λ l. among s f step m k l)
   where
-    go : Dec (k ≤ i) → (i < k → row_at n i + (n - i) ≤ row_at n k) → row_at n i + (n - i) ≤ row_at n k + (n - k)
-    go (yes l) r = rw (same l) (omega arith)
+    go : Dec (m ≤ k) → (k < m → s k + f k ≤ s m) → s k + f k ≤ s (suc m)
+    go (yes l) r = rw (same l) (omega (arith, step m))
       where
-        same : k ≤ i → i ≡ k
+        same : m ≤ k → k ≡ m
         same l = omega arith
-    go (no m) r = let l : i < k = omega arith in omega (arith, r l)
+    go (no n) r = let l : k < m = omega arith in omega (arith, r l, step m)
 
 -- The c-th entry of row i is one of the contents.
 pub in_row : (n i c : ℕ) → n ≤ 40 → i < n → c < n - i → row_at n i + c < entries n
-in_row n i c h l m = omega (arith, row-end n n i l, rows_all n h)
+in_row n i c h l m = omega (arith, among (row_at n) (λ k. n - k) (λ k. refl) n i l, rows_all n h)
 
 -- Where the entry of (i, j) stands: row 0 for w_j, row i for w_ij, and the column counted from 0. Its floor is j.
 pub record Located (n i j : ℕ) : Type 0 where

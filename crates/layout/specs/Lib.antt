@@ -4,6 +4,7 @@ pub mod Header
 pub mod Prime
 pub mod Contents
 pub mod Bodies
+pub mod Refusals
 pub mod Judged
 pub mod Relations
 pub mod Words

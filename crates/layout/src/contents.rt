@@ -1,12 +1,14 @@
 // The contents: the place of an entry, what it says, and the stretch of the lent numbers that it names.
 // Inner functions, for this crate and those above.
-ghost use Rattle.std.specs.Prelude.{◌≡◌, true, ◌+◌, ◌*◌, ◌≤◌, ◌<◌, length, eqb};
-ghost use Rattle.layout.specs.Header.{Seen, rank_of, bodies_at};
+ghost use Rattle.std.specs.Prelude.{◌≡◌, true, ◌+◌, ◌*◌, ◌≤◌, ◌<◌, eqb};
+ghost use Rattle.layout.specs.Header.{rank_of};
 ghost use Rattle.layout.specs.Header.{entries as entries_of};
-ghost use Rattle.layout.specs.Contents.{Spans, Measured, row_at, place_of, body_at, stretch_at, Lies, starts_right, length_due};
+ghost use Rattle.layout.specs.Contents.{Spans, row_at, place_of, body_at, stretch_at, Lies, starts_right, length_due};
 
-use crate::header::{entries, wide};
-use crate::{Generator, Span, View};
+use crate::header::entries;
+use crate::listed::Listed;
+use crate::spanned::Spanned;
+use crate::{Generator, Span};
 
 // Where row i of the contents begins, found by walking the rows before it: row 0 has the words w_j, row i the words w_ij.
 pub fn row_of(rank: Generator, i: Generator) -> usize
@@ -14,10 +16,8 @@ pub fn row_of(rank: Generator, i: Generator) -> usize
     ensures { (result ≡ row_at rank.0 i.0) × (result < 4294967296) }
 {
     let mut row: usize = 0;
-    let mut a: u16 = 0;
-    while a < i.0 {
-        row += wide(rank.0 - a);
-        a += 1;
+    for a in 0..i.0 {
+        row += usize::from(rank.0 - a);
     }
     row
 }
@@ -27,63 +27,57 @@ pub fn entry_of(rank: Generator, i: Generator, j: Generator) -> usize
     requires { (1 ≤ i.0) × (i.0 ≤ j.0) × (j.0 ≤ rank.0) }
     ensures { result ≡ place_of rank.0 i.0 j.0 }
 {
-    if i.0 == j.0 {
-        return wide(j.0 - 1);
+    if i == j {
+        return usize::from(j.0 - 1);
     }
-    row_of(rank, i) + wide(j.0 - i.0 - 1)
-}
-
-// What an entry of the contents says.
-pub fn span_at(numbers: &[u16], view: View, entry: usize) -> Span
-    requires seen { Seen numbers.now view }
-    requires numbers_in_bounds { bodies_at numbers.now ≤ length numbers.now }
-    requires bound { entry < entries_of (rank_of numbers.now) }
-    ensures { Spans numbers.now entry result }
-{
-    let at = view.contents + 2 * entry;
-    Span {
-        start: numbers[at],
-        pairs: numbers[at + 1],
-    }
+    row_of(rank, i) + usize::from(j.0 - i.0 - 1)
 }
 
 // Whether an entry starts where the pairs before it end, also where its own length is 0.
 fn starts_at(span: Span, sum: usize) -> bool
     ensures { result ≡ eqb span.start sum }
 {
-    span.start as usize == sum
+    usize::from(span.start) == sum
 }
 
-// Whether each start is the sum of all earlier lengths. The sum is wider than a start: it can pass 16 bits.
-pub fn starts_right(numbers: &[u16], view: View) -> bool
-    requires seen { Seen numbers.now view }
-    requires numbers_in_bounds { bodies_at numbers.now ≤ length numbers.now }
-    ensures { result ≡ starts_right numbers.now }
-{
-    let count = entries(view.rank);
-    let mut sum: usize = 0;
-    let mut entry: usize = 0;
-    while entry < count {
-        let span = span_at(numbers, view, entry);
-        if !starts_at(span, sum) {
-            return false;
+impl<'a> Listed<'a> {
+    // What an entry of the contents says. An entry stays a plain number: rows are walked by counting it up, and a type for the entries
+    // of these numbers would be made anew at each step.
+    pub fn span_at(self, entry: usize) -> Span
+        requires { entry < entries_of (rank_of self.numbers.now) }
+        ensures { Spans self.entry.numbers.now entry result }
+    {
+        let at = self.view.contents + 2 * entry;
+        Span {
+            start: self.numbers[at],
+            pairs: self.numbers[at + 1],
         }
-        sum += wide(span.pairs);
-        entry += 1;
     }
-    true
-}
 
-// How many numbers there have to be. Where each start is right, the last entry's start and length sum to all the pairs.
-pub fn length_due(numbers: &[u16], view: View) -> usize
-    requires seen { Seen numbers.now view }
-    requires numbers_in_bounds { bodies_at numbers.now ≤ length numbers.now }
-    requires bound { 1 ≤ rank_of numbers.now }
-    requires numbers_value { starts_right numbers.now ≡ true }
-    ensures { result ≡ length_due numbers.now }
-{
-    let last = span_at(numbers, view, entries(view.rank) - 1);
-    view.bodies + 2 * (wide(last.start) + wide(last.pairs))
+    // Whether each start is the sum of all earlier lengths. The sum is wider than a start: it can pass 16 bits.
+    pub fn starts_right(self) -> bool
+        ensures { result ≡ starts_right self.entry.numbers.now }
+    {
+        let mut sum: usize = 0;
+        for entry in 0..entries(self.view.rank) {
+            let span = self.span_at(entry);
+            if !starts_at(span, sum) {
+                return false;
+            }
+            sum += usize::from(span.pairs);
+        }
+        true
+    }
+
+    // How many numbers there have to be. Where each start is right, the last entry's start and length sum to all the pairs.
+    pub fn length_due(self) -> usize
+        requires bound { 1 ≤ rank_of self.numbers.now }
+        requires starts_value { starts_right self.numbers.now ≡ true }
+        ensures { result ≡ length_due self.entry.numbers.now }
+    {
+        let last = self.span_at(entries(self.view.rank) - 1);
+        self.view.bodies + 2 * (usize::from(last.start) + usize::from(last.pairs))
+    }
 }
 
 // Where so many pairs end that begin at `start`.
@@ -91,19 +85,19 @@ fn end_of(start: usize, pairs: u16) -> usize
     requires { start < 9223372036854775808 }
     ensures { result ≡ start + 2 * pairs }
 {
-    start + 2 * wide(pairs)
+    start + 2 * usize::from(pairs)
 }
 
-// The stretch of the numbers that an entry names: that part of the lent numbers itself.
-pub fn stretch_at(numbers: &[u16], view: View, entry: usize) -> &[u16]
-    requires seen { Seen numbers.now view }
-    requires measured { Measured numbers.now }
-    requires bound { entry < entries_of (rank_of numbers.now) }
-    ensures result_value { result.now ≡ stretch_at numbers.now entry }
-    ensures lies { Lies numbers.entry (body_at numbers.now entry) result }
-{
-    let span = span_at(numbers, view, entry);
-    let start = view.bodies + 2 * wide(span.start);
-    let end = end_of(start, span.pairs);
-    &numbers[start..end]
+impl<'a> Spanned<'a> {
+    // The stretch of the numbers that an entry names: that part of the lent numbers itself.
+    pub fn stretch_at(self, entry: usize) -> &'a [u16]
+        requires { entry < entries_of (rank_of self.listed.numbers.now) }
+        ensures result_value { result.now ≡ stretch_at self.entry.listed.numbers.now entry }
+        ensures lies { Lies self.entry.listed.numbers (body_at self.entry.listed.numbers.now entry) result }
+    {
+        let span = self.listed.span_at(entry);
+        let start = self.listed.view.bodies + 2 * usize::from(span.start);
+        let end = end_of(start, span.pairs);
+        &self.listed.numbers[start..end]
+    }
 }

@@ -10,15 +10,8 @@ use crate::{Exponent, Generator, View};
 pub fn entries(rank: Generator) -> usize
     ensures { (result ≡ entries_of rank.0) × (result < 4294967296) }
 {
-    let n = wide(rank.0);
+    let n = usize::from(rank.0);
     n * (n + 1) / 2
-}
-
-// A 16-bit number in a wider type: sums of starts and lengths pass 16 bits.
-pub fn wide(number: u16) -> usize
-    ensures { (result ≡ number) × (result < 65536) }
-{
-    number as usize
 }
 
 // The view of numbers that have a whole header.

@@ -1,62 +1,62 @@
-// Judging the lent numbers: the number 0 to 6 of document 01's table, in its order.
-ghost use Rattle.std.specs.Prelude.{◌≡◌};
+// Judging the lent numbers: the refusals 1 to 6 of document 01's table, in its order.
+ghost use Rattle.std.specs.Prelude.{◌≡◌, IfOk};
 ghost use Rattle.layout.specs.Judged.{judged, rank_right};
+ghost use Rattle.layout.specs.Refusals.{given};
 
-use crate::Generator;
-use crate::bodies::bodies_right;
-use crate::contents::{length_due, starts_right};
 use crate::header::view_of;
+use crate::listed::Listed;
 use crate::prime::prime_to_251;
-
-pub const DONE: u8 = 0;
-
-pub const SHORT: u8 = 1;
-
-pub const PRIME: u8 = 2;
-
-pub const RANK: u8 = 3;
-
-pub const CONTENTS: u8 = 4;
-
-pub const LENGTH: u8 = 5;
-
-pub const BODY: u8 = 6;
+use crate::spanned::Spanned;
+use crate::{Generator, Group, Refusal};
 
 // Whether the rank is from 1 to 40.
 fn rank_right(rank: Generator) -> bool
     ensures { result ≡ rank_right rank.0 }
 {
-    if rank.0 == 0 {
-        return false;
-    }
-    rank.0 <= 40
+    (1..=40).contains(&rank.0)
 }
 
-// The number that the lent numbers get as a presentation: 0 if they are accepted.
-pub fn judge(numbers: &[u16]) -> u8
-    ensures { result ≡ judged numbers.now }
+// The lent numbers as an accepted presentation, or why they are none.
+pub fn accept(numbers: &[u16]) -> Result<Group<'_>, Refusal>
+    ensures number { given result ≡ judged numbers.now }
+    ensures same { IfOk result (λ group. group.numbers ≡ numbers.entry) }
 {
     if numbers.len() < 2 {
-        return SHORT;
+        return Err(Refusal::Short);
     }
     let view = view_of(numbers);
     if !prime_to_251(view.prime) {
-        return PRIME;
+        return Err(Refusal::Prime);
     }
     if !rank_right(view.rank) {
-        return RANK;
+        return Err(Refusal::Rank);
     }
     if numbers.len() < view.bodies {
-        return CONTENTS;
+        return Err(Refusal::Contents);
     }
-    if !starts_right(numbers, view) {
-        return CONTENTS;
+    let listed = Listed { numbers, view };
+    if !listed.starts_right() {
+        return Err(Refusal::Contents);
     }
-    if numbers.len() != length_due(numbers, view) {
-        return LENGTH;
+    if numbers.len() != listed.length_due() {
+        return Err(Refusal::Length);
     }
-    if !bodies_right(numbers, view) {
-        return BODY;
+    let spanned = Spanned { listed };
+    if !spanned.bodies_right() {
+        return Err(Refusal::Body);
     }
-    DONE
+    let bodies = &numbers[view.bodies..];
+    Ok(Group {
+        numbers,
+        view,
+        bodies,
+    })
+}
+
+// Whether the lent numbers are accepted as a presentation, or why not.
+pub fn judge(numbers: &[u16]) -> Result<(), Refusal>
+    ensures { given result ≡ judged numbers.now }
+{
+    accept(numbers)?;
+    Ok(())
 }

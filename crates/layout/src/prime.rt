@@ -8,18 +8,16 @@ use crate::Exponent;
 pub fn prime_to_251(p: Exponent) -> bool
     ensures { result ≡ prime_to_251 p.0 }
 {
-    if p.0 < 2 {
+    if !(2..=251).contains(&p.0) {
         return false;
     }
-    if 251 < p.0 {
-        return false;
-    }
-    let mut d: u16 = 2;
-    while d * d <= p.0 {
+    for d in 2..16 {
+        if p.0 < d * d {
+            return true;
+        }
         if p.0 % d == 0 {
             return false;
         }
-        d += 1;
     }
     true
 }

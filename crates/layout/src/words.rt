@@ -1,48 +1,61 @@
 // Fetching a relation's word: `word_of` for any numbers, and `span_of` and `stretch_of`, inner functions for the crates above, for
 // numbers that were judged.
-ghost use Rattle.std.specs.Prelude.{◌≡◌, ◌≤◌};
-ghost use Rattle.layout.specs.Header.{Seen, rank_of};
+ghost use Rattle.std.specs.Prelude.{◌≡◌, ◌≤◌, ◌<◌};
+ghost use Rattle.layout.specs.Header.{rank_of, entries};
 ghost use Rattle.layout.specs.Contents.{Spans, place_of, body_at, stretch_of, Lies};
-ghost use Rattle.layout.specs.Judged.{judged};
 ghost use Rattle.layout.specs.Words.{names_relation, word_of, word_at};
 
-use crate::contents::{entry_of, span_at, stretch_at};
-use crate::header::view_of;
-use crate::judging::{DONE, judge};
-use crate::{Generator, Span, View};
+use crate::contents::entry_of;
+use crate::judging::accept;
+use crate::listed::Listed;
+use crate::spanned::Spanned;
+use crate::{Generator, Group, Span};
 
-// Start and length of w_i (i = j) or w_ij, in pairs.
-pub fn span_of(numbers: &[u16], view: View, i: Generator, j: Generator) -> Span
-    requires numbers_value { judged numbers.now ≡ 0 }
-    requires seen { Seen numbers.now view }
-    requires le_i { (1 ≤ i.0) × (i.0 ≤ j.0) × (j.0 ≤ rank_of numbers.now) }
-    ensures { Spans numbers.now (place_of (rank_of numbers.now) i.0 j.0) result }
-{
-    span_at(numbers, view, entry_of(view.rank, i, j))
-}
+impl<'a> Group<'a> {
+    // What was known of the numbers before their bodies were judged.
+    fn spanned(self) -> Spanned<'a>
+        ensures { result.listed.numbers ≡ self.entry.numbers }
+    {
+        let listed = Listed {
+            numbers: self.numbers,
+            view: self.view,
+        };
+        Spanned { listed }
+    }
 
-// The part of the lent numbers itself that holds w_i (i = j) or w_ij.
-pub fn stretch_of(numbers: &[u16], view: View, i: Generator, j: Generator) -> &[u16]
-    requires numbers_value { judged numbers.now ≡ 0 }
-    requires seen { Seen numbers.now view }
-    requires le_i { (1 ≤ i.0) × (i.0 ≤ j.0) × (j.0 ≤ rank_of numbers.now) }
-    ensures result_value { result.now ≡ stretch_of numbers.now i.0 j.0 }
-    ensures lies { Lies numbers.entry (body_at numbers.now (place_of (rank_of numbers.now) i.0 j.0)) result }
-{
-    stretch_at(numbers, view, entry_of(view.rank, i, j))
+    // What an entry of the contents says.
+    pub fn span_at(self, entry: usize) -> Span
+        requires { entry < entries (rank_of self.numbers.now) }
+        ensures { Spans self.entry.numbers.now entry result }
+    {
+        self.spanned().listed.span_at(entry)
+    }
+
+    // Start and length of w_i (i = j) or w_ij, in pairs. Here and below i and j stay two arguments, as in `word_of`, whose form is promised.
+    #[tactic(auto, using(crate::proofs::Accepted::place_listed))]
+    pub fn span_of(self, i: Generator, j: Generator) -> Span
+        requires { (1 ≤ i.0) × (i.0 ≤ j.0) × (j.0 ≤ rank_of self.numbers.now) }
+        ensures { Spans self.entry.numbers.now (place_of (rank_of self.entry.numbers.now) i.0 j.0) result }
+    {
+        self.span_at(entry_of(self.view.rank, i, j))
+    }
+
+    // The part of the lent numbers itself that holds w_i (i = j) or w_ij.
+    #[tactic(auto, using(crate::proofs::Accepted::place_listed))]
+    pub fn stretch_of(self, i: Generator, j: Generator) -> &'a [u16]
+        requires { (1 ≤ i.0) × (i.0 ≤ j.0) × (j.0 ≤ rank_of self.numbers.now) }
+        ensures result_value { result.now ≡ stretch_of self.entry.numbers.now i.0 j.0 }
+        ensures lies { Lies self.entry.numbers (body_at self.entry.numbers.now (place_of (rank_of self.entry.numbers.now) i.0 j.0)) result }
+    {
+        self.spanned().stretch_at(entry_of(self.view.rank, i, j))
+    }
 }
 
 // Whether (i, j) names a relation: 1 ≤ i ≤ j ≤ n.
 pub fn names_relation(rank: Generator, i: Generator, j: Generator) -> bool
     ensures { result ≡ names_relation rank.0 i.0 j.0 }
 {
-    if i.0 < 1 {
-        return false;
-    }
-    if j.0 < i.0 {
-        return false;
-    }
-    j.0 <= rank.0
+    Generator(1) <= i && i <= j && j <= rank
 }
 
 // The part of the lent numbers itself that holds w_i (i = j) or w_ij; for any other pair, and for numbers that are not accepted,
@@ -51,12 +64,8 @@ pub fn word_of(numbers: &[u16], i: Generator, j: Generator) -> &[u16]
     ensures result_value { result.now ≡ word_of numbers.now i.0 j.0 }
     ensures lies { Lies numbers.entry (word_at numbers.now i.0 j.0) result }
 {
-    if judge(numbers) != DONE {
-        return &numbers[0..0];
+    match accept(numbers) {
+        Ok(group) if names_relation(group.view.rank, i, j) => group.stretch_of(i, j),
+        _ => &numbers[..0],
     }
-    let view = view_of(numbers);
-    if !names_relation(view.rank, i, j) {
-        return &numbers[0..0];
-    }
-    stretch_of(numbers, view, i, j)
 }

@@ -5,6 +5,7 @@ use Prim.Native.Nat.{ℕ}
 use lib.ListN.{replicate}
 use Rattle.text.specs.Ascii.{ascii}
 use Rattle.text.specs.Decimal.{decimal}
+use Rattle.layout.specs.declared.refusal.Refusal.TheVariants.{Length, Budget}
 use Rattle.consistency.specs.declared.Overlap.TheVariants.{Triple, Single}
 use Rattle.consistency.specs.declared.Verdict.{Verdict}
 use Rattle.consistency.specs.declared.Verdict.TheVariants.{Pass, Differs, Refused, Stopped}
@@ -30,12 +31,12 @@ differs :
 unfolding line_with decimal
 differs = refl
 
-refused : line_with 2 3 (Refused 5) none none ≡ ascii "refused 5\n"
+refused : line_with 2 3 (Refused Length) none none ≡ ascii "refused 5\n"
 unfolding line_with none decimal
 refused = refl
 
 stopped :
-    line_with 2 5 (Stopped 9 (Triple (record { 0 = 1 }) (record { 0 = 2 }) (record { 0 = 4 }))) none none
+    line_with 2 5 (Stopped Budget (Triple (record { 0 = 1 }) (record { 0 = 2 }) (record { 0 = 4 }))) none none
     ≡ ascii "refused 9 1 1 2 4\n"
 unfolding line_with none decimal
 stopped = refl

@@ -5,6 +5,7 @@
 use Rattle.std.specs.Prelude.{List, [], ◌∷◌, ◌++◌, ℕ, ◌+◌, ◌*◌, ◌-◌, ◌/◌, take}
 use Rattle.text.specs.Ascii.{ascii}
 use Rattle.text.specs.Decimal.{spaced}
+use Rattle.layout.specs.Refusals.{refusal_number}
 use Rattle.consistency.specs.declared.Overlap.{Overlap}
 use Rattle.consistency.specs.declared.Verdict.{Verdict}
 use Rattle.consistency.specs.declared.Verdict.TheVariants.{Pass, Differs, Refused, Stopped}
@@ -40,8 +41,8 @@ stopped_line number o = ascii "refused" ++ (spaced (number ∷ family_of o ∷ g
 abbrev pub verdict_line : ℕ → ℕ → Verdict → List ℕ → List ℕ → List ℕ
 verdict_line p n Pass left right = pass_line p n
 verdict_line p n (Differs o) left right = differs_line n o left right
-verdict_line p n (Refused number) left right = refused_line number
-verdict_line p n (Stopped number o) left right = stopped_line number o
+verdict_line p n (Refused refusal) left right = refused_line (refusal_number refusal)
+verdict_line p n (Stopped refusal o) left right = stopped_line (refusal_number refusal) o
 
 abbrev pub line_of : ℕ → ℕ → Checked → List ℕ
 line_of p n checked = verdict_line p n checked.verdict checked.left checked.right

@@ -8,9 +8,7 @@ use layout::Generator;
 pub fn overlaps(rank: Generator) -> u64
     ensures { result ≡ overlaps_of rank.0 }
 {
-    let n = rank.0 as u64;
-    if n < 2 {
-        return n;
-    }
-    n * (n - 1) * (n - 2) / 6 + n * (n - 1) + n
+    let n = u64::from(rank.0);
+    let pairs = n * n.saturating_sub(1);
+    pairs * n.saturating_sub(2) / 6 + pairs + n
 }

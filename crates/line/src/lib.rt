@@ -6,4 +6,4 @@
 pub mod count; // how many overlaps there are
 pub mod verdict; // the line of a verdict
 
-pub use verdict::{line_of, put_refused};
+pub use verdict::{Line, line_of, refused_line};

@@ -1,155 +1,110 @@
 // The line of a verdict: one function for each case.
-ghost use Rattle.std.specs.Prelude.{◌≡◌, [], ◌∷◌, ◌+◌, ◌≤◌, min, length, take};
-ghost use Rattle.text.specs.Added.{Added};
+ghost use Rattle.std.specs.Prelude.{◌≡◌, [], ◌∷◌, ◌++◌, ◌+◌, ◌≤◌, length};
 ghost use Rattle.text.specs.Decimal.{spaced};
+ghost use Rattle.layout.specs.Refusals.{refusal_number};
 ghost use Rattle.consistency.specs.Verdict.{family_of, generators_of};
 ghost use Rattle.line.specs.Line.{vector_text, pass_line, differs_line, refused_line, stopped_line, line_of};
 
 use crate::count::overlaps;
-use consistency::{Checked, Family, Overlap, Verdict};
-use layout::{Exponent, Generator};
-use text::{put_byte, put_number, put_numbers, put_three, put_word};
+use arrayvec::ArrayString;
+use consistency::{Checked, Overlap, Verdict};
+use layout::{Exponent, Generator, Refusal};
+use text::{put_number, put_numbers, put_three};
 
-// An overlap as the line names it: its family and three generators, 0 for one that it does not have.
-#[derive(Clone, Copy)]
-struct Told {
-    family: u8,
-    a: Generator,
-    b: Generator,
-    c: Generator,
-}
-
-fn told_of(overlap: Overlap) -> Told
-    ensures family_value { result.family ≡ family_of overlap }
-    ensures generators_value { result.a.0 ∷ result.b.0 ∷ result.c.0 ∷ [] ≡ generators_of overlap }
-{
-    let none = Generator(0);
-    match overlap {
-        Overlap::Triple(i, j, k) => Told {
-            family: 1,
-            a: i,
-            b: j,
-            c: k,
-        },
-        Overlap::Pair(family, i, j) => match family {
-            Family::Upper => Told {
-                family: 2,
-                a: i,
-                b: j,
-                c: none,
-            },
-            Family::Lower => Told {
-                family: 3,
-                a: i,
-                b: j,
-                c: none,
-            },
-        },
-        Overlap::Single(i) => Told {
-            family: 4,
-            a: i,
-            b: none,
-            c: none,
-        },
-    }
-}
+// A line has at most 1,776 bytes.
+pub type Line = ArrayString<2048>;
 
 // The family and the generators of an overlap.
-fn put_overlap(out: &mut [u8], at: usize, overlap: Overlap) -> usize
-    requires { at + 84 ≤ length out.old }
-    ensures added { Added out.old at out.new result (spaced (family_of overlap ∷ generators_of overlap)) }
-    ensures upper_bound { result ≤ at + 84 }
+fn put_overlap(out: &mut Line, overlap: Overlap)
+    requires { length out.old.bytes + 84 ≤ 2048 }
+    ensures added { out.new.bytes ≡ out.old.bytes ++ spaced (family_of overlap ∷ generators_of overlap) }
+    ensures upper_bound { length out.new.bytes ≤ length out.old.bytes + 84 }
 {
-    let t = told_of(overlap);
-    let next = put_number(out, at, t.family as u64);
-    put_three(out, next, t.a.0 as u64, t.b.0 as u64, t.c.0 as u64)
+    put_numbers(out, &overlap.numbers().map(u64::from));
 }
 
-fn least(a: usize, b: usize) -> usize
-    ensures { (result ≡ min a b) × (result ≤ a) × (result ≤ b) }
+// The entries of a vector, as numbers to print.
+fn widened(vector: [u8; 40]) -> [u64; 40]
+    ensures { result ≡ vector }
 {
-    if a < b { a } else { b }
+    vector.map(u64::from)
 }
 
 // A colon and the entries of a vector, as many as the rank says.
-fn put_vector(out: &mut [u8], at: usize, vector: [u8; 40], rank: Generator) -> usize
-    requires { at + 842 ≤ length out.old }
-    ensures added { Added out.old at out.new result (vector_text rank.0 vector) }
-    ensures upper_bound { result ≤ at + 842 }
+fn put_vector(out: &mut Line, vector: [u8; 40], rank: Generator)
+    requires { length out.old.bytes + 842 ≤ 2048 }
+    ensures added { out.new.bytes ≡ out.old.bytes ++ vector_text rank.0 vector }
+    ensures upper_bound { length out.new.bytes ≤ length out.old.bytes + 842 }
 {
-    let n = least(rank.0 as usize, 40);
-    let next = put_word(out, at, b" :");
-    put_numbers(out, next, &vector[..n])
+    let n = usize::from(rank.0).min(40);
+    out.push_str(" :");
+    put_numbers(out, &widened(vector)[..n]);
 }
 
-#[tactic(auto, using(crate::proofs::Parts::pass))]
-fn put_pass(out: &mut [u8], prime: Exponent, rank: Generator) -> usize
-    requires { 2048 ≤ length out.old }
-    ensures added { Added out.old 0 out.new result (pass_line prime.0 rank.0) }
-    ensures upper_bound { result ≤ 2048 }
+fn pass_line(prime: Exponent, rank: Generator) -> Line
+    ensures { result.bytes ≡ pass_line prime.0 rank.0 }
 {
-    let next = put_word(out, 0, b"pass");
-    let end = put_three(out, next, prime.0 as u64, rank.0 as u64, overlaps(rank));
-    put_byte(out, end, b'\n')
+    let mut line = Line::new();
+    line.push_str("pass");
+    put_three(
+        &mut line,
+        u64::from(prime.0),
+        u64::from(rank.0),
+        overlaps(rank),
+    );
+    line.push('\n');
+    line
 }
 
-#[tactic(auto, using(crate::proofs::Parts::differs))]
-fn put_differs(
-    out: &mut [u8],
-    rank: Generator,
-    overlap: Overlap,
-    left: [u8; 40],
-    right: [u8; 40],
-) -> usize
-    requires { 2048 ≤ length out.old }
-    ensures added { Added out.old 0 out.new result (differs_line rank.0 overlap left right) }
-    ensures upper_bound { result ≤ 2048 }
+fn differs_line(rank: Generator, overlap: Overlap, left: [u8; 40], right: [u8; 40]) -> Line
+    ensures { result.bytes ≡ differs_line rank.0 overlap left right }
 {
-    let first = put_word(out, 0, b"differs");
-    let second = put_overlap(out, first, overlap);
-    let third = put_vector(out, second, left, rank);
-    let end = put_vector(out, third, right, rank);
-    put_byte(out, end, b'\n')
+    let mut line = Line::new();
+    line.push_str("differs");
+    put_overlap(&mut line, overlap);
+    put_vector(&mut line, left, rank);
+    put_vector(&mut line, right, rank);
+    line.push('\n');
+    line
 }
 
 // A refusal that has no overlap.
-#[tactic(auto, using(crate::proofs::Parts::refused))]
-pub fn put_refused(out: &mut [u8], number: u8) -> usize
-    requires { 2048 ≤ length out.old }
-    ensures added { Added out.old 0 out.new result (refused_line number) }
-    ensures upper_bound { result ≤ 2048 }
+pub fn refused_line(refusal: Refusal) -> Line
+    ensures { result.bytes ≡ refused_line (refusal_number refusal) }
 {
-    let next = put_word(out, 0, b"refused");
-    let end = put_number(out, next, number as u64);
-    put_byte(out, end, b'\n')
+    let mut line = Line::new();
+    line.push_str("refused");
+    put_number(&mut line, u64::from(u8::from(refusal)));
+    line.push('\n');
+    line
 }
 
 // A refusal at an overlap.
 #[tactic(auto, using(crate::proofs::Parts::stopped))]
-fn put_stopped(out: &mut [u8], number: u8, overlap: Overlap) -> usize
-    requires { 2048 ≤ length out.old }
-    ensures added { Added out.old 0 out.new result (stopped_line number overlap) }
-    ensures upper_bound { result ≤ 2048 }
+fn stopped_line(refusal: Refusal, overlap: Overlap) -> Line
+    ensures { result.bytes ≡ stopped_line (refusal_number refusal) overlap }
 {
-    let first = put_word(out, 0, b"refused");
-    let second = put_number(out, first, number as u64);
-    let end = put_overlap(out, second, overlap);
-    put_byte(out, end, b'\n')
+    let mut line = Line::new();
+    line.push_str("refused");
+    put_number(&mut line, u64::from(u8::from(refusal)));
+    put_overlap(&mut line, overlap);
+    line.push('\n');
+    line
 }
 
-// The line of what the check answered on a presentation with this p and n, and how many bytes it has.
-pub fn line_of(prime: Exponent, rank: Generator, checked: Checked, out: &mut [u8]) -> usize
-    requires { 2048 ≤ length out.old }
-    ensures added { Added out.old 0 out.new result (line_of prime.0 rank.0 checked) }
-    ensures upper_bound { result ≤ 2048 }
+// The line of what the check answered on a presentation with this p and n.
+pub fn line_of(prime: Exponent, rank: Generator, checked: Checked) -> Line
+    ensures { result.bytes ≡ line_of prime.0 rank.0 checked }
 {
-    let verdict = checked.verdict;
-    let left = checked.left;
-    let right = checked.right;
+    let Checked {
+        verdict,
+        left,
+        right,
+    } = checked;
     match verdict {
-        Verdict::Pass => put_pass(out, prime, rank),
-        Verdict::Differs(overlap) => put_differs(out, rank, overlap, left, right),
-        Verdict::Refused(number) => put_refused(out, number),
-        Verdict::Stopped(number, overlap) => put_stopped(out, number, overlap),
+        Verdict::Pass => pass_line(prime, rank),
+        Verdict::Differs(overlap) => differs_line(rank, overlap, left, right),
+        Verdict::Refused(refusal) => refused_line(refusal),
+        Verdict::Stopped(refusal, overlap) => stopped_line(refusal, overlap),
     }
 }

@@ -7,16 +7,21 @@ use pcp_run::print_line;
 use std::io;
 
 fn main(rt: HostRuntime) -> io::Result<()> {
-    print_line(&rt, b"q.pcp")?;
-    print_line(&rt, b"z.pcp")?;
-    print_line(&rt, b"family_1.pcp")?;
-    print_line(&rt, b"family_2.pcp")?;
-    print_line(&rt, b"family_3.pcp")?;
-    print_line(&rt, b"empty.pcp")?;
-    print_line(&rt, b"one_byte.pcp")?;
-    print_line(&rt, b"odd.pcp")?;
-    print_line(&rt, b"long.pcp")?;
-    print_line(&rt, b"at_limit.pcp")?;
-    print_line(&rt, b"absent.pcp")?;
-    print_line(&rt, b".")
+    for name in [
+        "q.pcp",
+        "z.pcp",
+        "family_1.pcp",
+        "family_2.pcp",
+        "family_3.pcp",
+        "empty.pcp",
+        "one_byte.pcp",
+        "odd.pcp",
+        "long.pcp",
+        "at_limit.pcp",
+        "absent.pcp",
+        ".",
+    ] {
+        print_line(&rt, name.as_bytes())?;
+    }
+    Ok(())
 }

@@ -1,6 +1,6 @@
 -- The slots of one entry: how they are brought about, and what they stand for.
 --
--- Main results: `copies-more`, `entry-copies`, `entry-power`, `exchange-more`, `exchange-grows`, `exchange-zeros`.
+-- Main results: `depth_copies`, `entry-power`, `exchange-more`, `exchange-grows`, `exchange-zeros`.
 use mathlib.Core.Path.{◌≡◌, refl, sym, ap, ◌∙◌}
 use mathlib.Core.List.{List, ◌∷◌}
 use mathlib.Core.Bool.{Bool, true, false}
@@ -10,17 +10,20 @@ use native.Mathlib.Numerals.{add-one}
 use lib.ListN.{length, get_or, drop, drop_of_length-le}
 use lib.Seq.{drop-cons}
 use lib.Dec.{eqb}
-use borrow.Author.Tests.{eq-eqb, ne_eqb}
+use borrow.Author.Tests.{eq-eqb}
 use Rattle.theory.specs.Presentation.{Vector}
 use Rattle.theory.specs.Placing.{total}
 use Rattle.layout.specs.declared.Generator.{Generator}
 use Rattle.layout.specs.declared.Span.{Span}
-use Rattle.layout.specs.Header.{rank_of, bodies_at, entries}
-use Rattle.layout.specs.Contents.{Spans, Measured, start_of, length_of, body_at, row_at, entry_at}
-use Rattle.layout.proofs.Stretches.{stretch-fits}
+use Rattle.layout.specs.Header.{rank_of, entries}
+use Rattle.layout.specs.Contents.{Spans, start_of, row_at, entry_at}
+use Rattle.layout.specs.Judged.{judged}
+use Rattle.layout.proofs.Stretches.{start_is, within}
+use Rattle.layout.proofs.Accepted.{accepted}
+use Rattle.layout.proofs.Bounds.{all-few}
 use Rattle.slots.specs.declared.Slot.{Slot}
 use Rattle.slots.specs.declared.Slot.TheVariants.{Relation}
-use Rattle.slots.specs.Slots.{stack, Pushed, Brought, power_of}
+use Rattle.slots.specs.Slots.{stack, Brought, power_of}
 use Rattle.slots.proofs.Stores.{length-stack}
 use Rattle.slots.proofs.Brings.{brought-from}
 use Rattle.placing.specs.Exchange.{copies_of, entry_slots, span_of, exchange_slots}
@@ -32,31 +35,14 @@ length-copies (suc b) x g below =
     let h : length (copies_of b x g below) ≡ length below + 2 * b = length-copies b x g below in omega arith
 
 -- What b copies come to, on the d slots of ws.
-pub depth-copies : (b : ℕ) (x : Slot) (g : Generator) (ws : List ℕ) (d : ℕ) → d + 2 * b ≡ length (copies_of b x g (stack ws d))
-depth-copies b x g ws d =
+pub depth_copies : (b : ℕ) (x : Slot) (g : Generator) (ws : List ℕ) (d : ℕ) → d + 2 * b ≡ length (copies_of b x g (stack ws d))
+depth_copies b x g ws d =
     let l : length (stack ws d) ≡ d = length-stack ws d in
     let h : length (copies_of b x g (stack ws d)) ≡ length (stack ws d) + 2 * b = length-copies b x g (stack ws d) in
     omega arith
 
--- One copy more: the string and then the power are pushed.
-pub copies-more
-    : {x : Slot} {g : Generator} {ws ws₁ ws₂ : List ℕ} {d : ℕ} (b : ℕ) (below : List Slot) → stack ws d ≡ copies_of b x g below
-    → Pushed x ws d ws₁ → Pushed (power_of g 1) ws₁ (d + 1) ws₂
-    → (length ws₂ ≡ length ws) × (stack ws₂ (d + 2) ≡ copies_of (b + 1) x g below)
-copies-more {x} {g} {ws} {ws₁} {ws₂} {d} b below e p q =
-    let two : d + 2 ≡ d + 1 + 1 = omega arith in (
-      q.kept ∙ p.kept,
-      ap (stack ws₂) two ∙ q.stacked ∙ ap (λ (l : List Slot). power_of g 1 ∷ l) (p.stacked ∙ ap (λ (l : List Slot). x ∷ l) e)
-          ∙ ap (λ (k : ℕ). copies_of k x g below) (sym (add-one b)),
-    )
-
 -- The slots of an entry b, by its cases.
 module _ (span : Span) (g : Generator) (below : List Slot) where
-  pub entry-copies : (b : ℕ) → (b ≡ 0 → ⊥) → (span.pairs ≡ 0 → ⊥)
-      → entry_slots span g b below ≡ copies_of b (Relation span.start span.pairs) g below
-  entry-copies zero h k = refl
-  entry-copies (suc b) h k = rw (ne_eqb span.pairs 0 k, entry_slots)
-
   pub entry-power : (b : ℕ) → (b ≡ 0 → ⊥) → span.pairs ≡ 0 → entry_slots span g b below ≡ power_of g b ∷ below
   entry-power zero h k = absurd (h refl)
   entry-power (suc b) h k = rw (eq-eqb span.pairs 0 k, entry_slots)
@@ -86,9 +72,9 @@ pub span-is : {nums : List ℕ} {e : ℕ} {span : Span} → Spans nums e span �
 span-is s = λ i. record { start = s.start i; pairs = s.pairs i }
 
 -- A start is at most the number of pairs.
-pub start_small : (nums : List ℕ) (e : ℕ) → Measured nums → length nums ≤ bodies_at nums + 2 * 10660 → e < entries (rank_of nums)
-    → start_of nums e ≤ 10660
-start_small nums e m h l = let f : body_at nums e + 2 * length_of nums e ≤ length nums = stretch-fits nums e m l in omega arith
+pub start_small : (nums : List ℕ) (e : ℕ) → judged nums ≡ 0 → e < entries (rank_of nums) → start_of nums e ≤ 10660
+start_small nums e h l =
+    omega (arith, start_is nums e (accepted nums h).measured.starts l, within nums (entries (rank_of nums)) e l, all-few nums h)
 
 -- One entry more, from the last down.
 module _ (nums : List ℕ) (i : ℕ) (v : Vector) (below : List Slot) where

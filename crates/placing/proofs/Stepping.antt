@@ -9,6 +9,7 @@ use native.Mathlib.Omega.{arith}
 use lib.ListN.{length, get_or, drop, length-drop, length-map}
 use lib.Dec.{ltb}
 use borrow.Author.Tests.{lt-ltb, le-ltb}
+use Rattle.std.specs.Prelude.{Result, Ok}
 use Rattle.theory.specs.Presentation.{Vector}
 use Rattle.theory.specs.Placing.{Placed, total, power_uses, cost, place}
 use Rattle.theory.proofs.Words.{normal-length}
@@ -16,6 +17,8 @@ use Rattle.theory.proofs.Arrays.{placed_at, place_is}
 use Rattle.layout.specs.declared.View.{View}
 use Rattle.layout.specs.Header.{prime_of, rank_of}
 use Rattle.layout.specs.Contents.{stretch_of}
+use Rattle.layout.specs.declared.refusal.Refusal.{Refusal}
+use Rattle.layout.specs.Refusals.{given}
 use Rattle.layout.specs.Relations.{presentation}
 use Rattle.slots.specs.Slots.{stack, on_top, lessened}
 use Rattle.slots.specs.Pieces.{Piece, power, string, meaning, pieces, leading, taken}
@@ -24,7 +27,7 @@ use Rattle.slots.proofs.Stacks.{length-pieces, leading_top}
 use Rattle.placing.specs.Exchange.{exchanged, exchange, copies, exchange_slots, cleared, Filled}
 use Rattle.placing.specs.Step.{Step, refuse, lead, due, step, placing_of, slots_after}
 use Rattle.placing.specs.declared.Placement.{Placement}
-use Rattle.placing.specs.Ready.{Ground, Ready, Passes, Tells, Steps}
+use Rattle.placing.specs.Ready.{Ground, Ready, Passes, placement_in, Tells, Steps}
 use Rattle.placing.proofs.Meaning.{meaning-exchange, standing-exchange}
 
 -- The exchange only adds slots.
@@ -221,25 +224,30 @@ module _ {nums bodies word : List ℕ} {v : Vector} {ws : List ℕ} {d : ℕ} (r
           (λ h. let l = length-pieces bodies word ws' r in let q = ap length (passes.slots h) in omega (arith, l, q, h))
 
       -- A refusal says its number, and nothing of the vector and the slots.
-      pub refused : {left k : ℕ} {q : Placement} → k ≡ due left (e + p) room r → (k ≡ 0 → ⊥) → q.number ≡ k → Steps nums bodies word left v ws d v' ws' q
-      refused {left} {k} {q} a nonzero number =
+      pub refused : {left : ℕ} {q : Result Placement Refusal} → given q ≡ due left (e + p) room r → (given q ≡ 0 → ⊥)
+          → Steps nums bodies word left v ws d v' ws' q
+      refused {left} {q} a nonzero =
           record {
             kept = passes.kept;
             tells =
-                subst (λ (x : Step). Tells x q v' (pieces bodies word ws' q.depth))
-                (sym (step-refused nums left room v slots k (a ∙ due-is left) nonzero)) number;
-            stands = λ z. absurd (nonzero (sym number ∙ z));
+                subst (λ (x : Step). Tells x q v' (pieces bodies word ws' (placement_in q).depth))
+                (sym (step-refused nums left room v slots (given q) (a ∙ due-is left) nonzero)) refl;
+            stands = λ z. absurd (nonzero z);
           }
 
-      pub led : {left k : ℕ} {v'' : Vector} → k ≡ due left (e + p) room r → k ≡ 0 → v'' ≡ (place (presentation nums) 1 v i).vector
-          → Steps nums bodies word left v ws d v'' ws' (record { number = 0; depth = r; exchanges = e; powers = p })
-      led {left} {k} {v''} a z vector =
-          let fits = due-fits left (e + p) room r (sym a ∙ z) in
+      pub led : {left : ℕ} {v'' : Vector} → due left (e + p) room r ≡ 0 → v'' ≡ (place (presentation nums) 1 v i).vector
+          → Steps nums bodies word left v ws d v'' ws' (Ok (record { depth = r; exchanges = e; powers = p }))
+      led {left} {v''} z vector =
           record {
             kept = passes.kept;
             tells =
-                subst (λ (x : Step). Tells x (record { number = 0; depth = r; exchanges = e; powers = p }) v'' (pieces bodies word ws' r))
-                (sym (step-leads nums left room v slots (sym (due-is left) ∙ sym a ∙ z)))
-                (refl, vector ∙ ap (λ (x : ℕ). (place (presentation nums) 1 v x).vector) counted.leads, passes.slots fits, exchanges-are, powers-are);
-            stands = λ y. passes.stands fits;
+                subst (λ (x : Step). Tells x (Ok (record { depth = r; exchanges = e; powers = p })) v'' (pieces bodies word ws' r))
+                (sym (step-leads nums left room v slots (sym (due-is left) ∙ z))) (
+                  refl,
+                  vector ∙ ap (λ (x : ℕ). (place (presentation nums) 1 v x).vector) counted.leads,
+                  passes.slots (due-fits left (e + p) room r z),
+                  exchanges-are,
+                  powers-are,
+                );
+            stands = λ y. passes.stands (due-fits left (e + p) room r z);
           }

@@ -1,6 +1,6 @@
 -- Sums of a vector's tail, by index: what the loops over a vector keep.
 --
--- Main results: `total-from`, `total-zeros`, `reaches`, `reaches-not`.
+-- Main results: `total-from`, `total-zeros`.
 use mathlib.Core.Path.{◌≡◌, refl, sym, ap, ◌∙◌}
 use mathlib.Core.List.{[], ◌∷◌}
 use Prim.Native.Nat.{ℕ, zero, suc, ◌+◌, ◌≤◌, ◌<◌}
@@ -9,8 +9,7 @@ use native.Mathlib.Numerals.{add-one}
 use lib.ListN.{length, get_or, drop}
 use lib.Seq.{drop-cons}
 use Rattle.theory.specs.Presentation.{Vector}
-use borrow.Author.Tests.{eq-eqb, ne_eqb}
-use Rattle.theory.specs.Placing.{total, power_uses}
+use Rattle.theory.specs.Placing.{total}
 
 -- The entry at an index, and those after it.
 pub total-from : (v : Vector) (at : ℕ) → at < length v → total (drop at v) ≡ get_or v at 0 + total (drop (at + 1) v)
@@ -42,10 +41,3 @@ total-zeros v k at h t =
     let f = total-from v at (omega arith) in
     let p = total-part v k (at + 1) (omega arith) in
     (omega (arith, e, f, p, t), omega (arith, e, f, p, t))
-
--- Whether a placing reaches the exponent.
-pub reaches : (e a : ℕ) → a + 1 ≡ e → 1 ≡ power_uses e a
-reaches e a h = rw (eq-eqb (suc a) e (omega arith), power_uses)
-
-pub reaches-not : (e a : ℕ) → (a + 1 ≡ e → ⊥) → 0 ≡ power_uses e a
-reaches-not e a h = rw (ne_eqb (suc a) e (λ q. h (omega arith)), power_uses)

@@ -3,3 +3,4 @@ pub mod Settable
 pub mod Exchange
 pub mod Step
 pub mod Ready
+pub mod Grounds

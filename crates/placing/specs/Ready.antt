@@ -1,10 +1,12 @@
 -- What holds where a placing begins, and what it answers.
 --
 -- Main definitions: `Ground`, `Ready`, `Passes`, `Tells`, `Steps`.
-use Rattle.std.specs.Prelude.{◌≡◌, List, ℕ, ◌≤◌, ◌<◌, ◌/◌, length, drop}
+use Rattle.std.specs.Prelude.{◌≡◌, List, ℕ, ◌≤◌, ◌<◌, ◌/◌, length, drop, Result, Ok, Err}
 use Rattle.theory.specs.Presentation.{Vector, Normal}
 use Rattle.layout.specs.declared.View.{View}
 use Rattle.layout.specs.Header.{Seen, rank_of, bodies_at}
+use Rattle.layout.specs.declared.refusal.Refusal.{Refusal}
+use Rattle.layout.specs.Refusals.{given}
 use Rattle.layout.specs.Judged.{judged}
 use Rattle.layout.specs.Relations.{presentation}
 use Rattle.slots.specs.Pieces.{Piece, pieces}
@@ -36,13 +38,19 @@ pub record Passes (nums bodies word : List ℕ) (i : ℕ) (v : Vector) (ws : Lis
   pub stands : r ≤ length ws / 3 → Stacked (rank_of nums) bodies word ws' r
   pub vector : r ≤ length ws / 3 → v' ≡ cleared i v
 
+-- The placement that an answer holds; nothing is said of it where the placing is refused.
+abbrev pub placement_in : Result Placement Refusal → Placement
+placement_in (Ok placement) = placement
+placement_in (Err refusal) = record { depth = 0; exchanges = 0; powers = 0 }
+
 -- What the answer r says of the step, with the vector and the slots that are left: the number of the refusal, or 0 with where it led.
-abbrev pub Tells : Step → Placement → Vector → List Piece → Type 0
-Tells (refuse k) r v slots = r.number ≡ k
-Tells (lead v' slots' e p) r v slots = (r.number ≡ 0) × (v ≡ v') × (slots ≡ slots') × (r.exchanges ≡ e) × (r.powers ≡ p)
+abbrev pub Tells : Step → Result Placement Refusal → Vector → List Piece → Type 0
+Tells (refuse k) r v slots = given r ≡ k
+Tells (lead v' slots' e p) r v slots = (given r ≡ 0) × (v ≡ v') × (slots ≡ slots') × ((placement_in r).exchanges ≡ e) × ((placement_in r).powers ≡ p)
 
 -- A placing from the vector v and the d slots of ws, with `left` of the budget: v' and ws' are left, and r is answered.
-pub record Steps (nums bodies word : List ℕ) (left : ℕ) (v : Vector) (ws : List ℕ) (d : ℕ) (v' : Vector) (ws' : List ℕ) (r : Placement) : Type 0 where
+pub record Steps (nums bodies word : List ℕ) (left : ℕ) (v : Vector) (ws : List ℕ) (d : ℕ) (v' : Vector) (ws' : List ℕ)
+    (r : Result Placement Refusal) : Type 0 where
   pub kept : length ws' ≡ length ws
-  pub tells : Tells (step nums left (length ws / 3) v (pieces bodies word ws d)) r v' (pieces bodies word ws' r.depth)
-  pub stands : r.number ≡ 0 → Stacked (rank_of nums) bodies word ws' r.depth
+  pub tells : Tells (step nums left (length ws / 3) v (pieces bodies word ws d)) r v' (pieces bodies word ws' (placement_in r).depth)
+  pub stands : given r ≡ 0 → Stacked (rank_of nums) bodies word ws' (placement_in r).depth

@@ -1,4 +1,4 @@
--- Any two outcomes that a promise of this crate allows coincide, and a record's number, p and n are read by no call.
+-- Any two outcomes that a promise of this crate allows coincide, and what a record says it was judged, its p and its n are read by no call.
 --
 -- Main results:
 --   `opens-once`     two records that one slice may be opened to agree in every field, in what they stand over and in where that lies;
@@ -8,11 +8,12 @@
 --   `word-of-as-plain`, .., `check-as-plain`
 --                    the contract at the record is that of the function on plain parameters at the numbers that it stands over: the call says
 --                    all that the plain one says, lent slices at exit included
---   `remade`         the record with another number, p and n; `word-of-ignores`, .., `check-ignores`: the contract at the record is the
+--   `remade`         the record judged otherwise, with another p and n; `word-of-ignores`, .., `check-ignores`: the contract at the record is the
 --                    contract at any such other
 use mathlib.Core.Path.{◌≡◌, refl, sym, ◌∙◌}
 use Prim.Native.Nat.{ℕ}
 use mathlib.Core.List.{List, [], ◌∷◌}
+use Rattle.std.specs.Prelude.{Result}
 use seplogic.Ra.Ura.{Ura}
 use base.Logic.{SProp, ent, sep, id⊢, via, fst∗, snd∗}
 use prog.Memory.{Memory}
@@ -27,8 +28,9 @@ use denote.Triple.Clauses.{AtExit}
 use denote.Triple.Entry.{Args, Res}
 use Rattle.layout.specs.Contents.{Lies}
 use Rattle.layout.specs.Judged.{judged}
-use Rattle.collector.specs.declared.Answer.{Answer}
-use Rattle.collector.specs.Calls.{Left, Leaves}
+use Rattle.layout.specs.declared.refusal.Refusal.{Refusal}
+use Rattle.layout.proofs.Refusals.{given-once}
+use Rattle.collector.proofs.Once.{leaves-once, fathoms-once}
 use Rattle.layout.specs.contracts.word_of as plain-word-of
 use Rattle.collector.specs.contracts.collect as plain-collect
 use Rattle.collector.specs.contracts.product as plain-product
@@ -47,10 +49,10 @@ use Rattle.presentation.specs.contracts.check as check
 use Rattle.presentation.specs.contracts.collect_opened as collect-opened
 
 pub opens-once : (lent : Bor (List ℕ)) (d e : Presentation) → Opens lent d → Opens lent e
-    → (d.number ≡ e.number) × (d.p ≡ e.p) × (d.n ≡ e.n) × (d.numbers.now ≡ e.numbers.now)
+    → (d.judged ≡ e.judged) × (d.p ≡ e.p) × (d.n ≡ e.n) × (d.numbers.now ≡ e.numbers.now)
     × (d.numbers.ref_ptr.0 ≡ e.numbers.ref_ptr.0) × (d.numbers.ref_ptr.1 ≡ e.numbers.ref_ptr.1)
 opens-once lent d e a b = (
-  a.number ∙ sym b.number,
+  given-once d.judged e.judged (a.number ∙ sym b.number),
   λ i. record { 0 = (a.prime ∙ sym b.prime) i },
   λ i. record { 0 = (a.rank ∙ sym b.rank) i },
   a.stands.holds ∙ sym b.stands.holds,
@@ -60,18 +62,11 @@ opens-once lent d e a b = (
 
 pub opens-same : (lent : Bor (List ℕ)) (d e : Presentation) → judged lent.now ≡ 0 → Opens lent d → Opens lent e → d ≡ e
 opens-same lent d e z a b i = record {
-  number = (a.number ∙ sym b.number) i;
+  judged = given-once d.judged e.judged (a.number ∙ sym b.number) i;
   p = record { 0 = (a.prime ∙ sym b.prime) i };
   n = record { 0 = (a.rank ∙ sym b.rank) i };
   numbers = (a.stands.same z ∙ sym (b.stands.same z)) i;
 }
-
-leaves-one : {left : Left} {a b : Answer} {v w s t : List ℕ} → Leaves left a v s → Leaves left b w t → (a ≡ b) × (v ≡ w) × (s ≡ t)
-leaves-one x y = (
-  λ i. record { number = (x.number ∙ sym y.number) i; count = (x.count ∙ sym y.count) i },
-  x.vector_is ∙ sym y.vector_is,
-  x.work_is ∙ sym y.work_is,
-)
 
 lies-one : {lent r s : Bor (List ℕ)} {at : ℕ} → Lies lent at r → Lies lent at s → r.ref_ptr ≡ s.ref_ptr
 lies-one x y i = ((x.block ∙ sym y.block) i, (x.offset ∙ sym y.offset) i)
@@ -98,7 +93,7 @@ module _ {M : Type 1} {𝓤 : Ura M} (𝓛 : Logic 𝓤) (mem : Memory → SProp
 
   pub open-one : (κs : Lfts 1) (a : Args opening.signature κs) (r s : Presentation) (x y : AtExit opening.ended κs)
       → ent 𝓤 (sep 𝓤 ((opening.clauses 𝓛 mem run κs a).ensures tt r x) ((opening.clauses 𝓛 mem run κs a).ensures tt s y))
-      (fact 𝓤 ((r.number ≡ s.number) × (r.p ≡ s.p) × (r.n ≡ s.n) × (r.numbers.now ≡ s.numbers.now)
+      (fact 𝓤 ((r.judged ≡ s.judged) × (r.p ≡ s.p) × (r.n ≡ s.n) × (r.numbers.now ≡ s.numbers.now)
       × (r.numbers.ref_ptr.0 ≡ s.numbers.ref_ptr.0) × (r.numbers.ref_ptr.1 ≡ s.numbers.ref_ptr.1)))
   open-one κs a r s x y = facts _ _ _ (opens-once a.0 r s)
 
@@ -110,22 +105,22 @@ module _ {M : Type 1} {𝓤 : Ura M} (𝓛 : Logic 𝓤) (mem : Memory → SProp
   pub collect-one : (κs : Lfts 4) (a : Args collect.signature κs) (r s : Res collect.signature κs) (x y : AtExit collect.ended κs)
       → ent 𝓤 (sep 𝓤 ((collect.clauses 𝓛 mem run κs a).ensures tt r x) ((collect.clauses 𝓛 mem run κs a).ensures tt s y))
       (fact 𝓤 ((r ≡ s) × (x.1.0.now ≡ y.1.0.now) × (x.1.1.1.1.0.now ≡ y.1.1.1.1.0.now)))
-  collect-one κs a r s x y = facts _ _ _ leaves-one
+  collect-one κs a r s x y = facts _ _ _ leaves-once
 
   pub product-one : (κs : Lfts 4) (a : Args product.signature κs) (r s : Res product.signature κs) (x y : AtExit product.ended κs)
       → ent 𝓤 (sep 𝓤 ((product.clauses 𝓛 mem run κs a).ensures tt r x) ((product.clauses 𝓛 mem run κs a).ensures tt s y))
       (fact 𝓤 ((r ≡ s) × (x.1.0.now ≡ y.1.0.now) × (x.1.1.1.1.0.now ≡ y.1.1.1.1.0.now)))
-  product-one κs a r s x y = facts _ _ _ leaves-one
+  product-one κs a r s x y = facts _ _ _ leaves-once
 
   pub inverse-one : (κs : Lfts 3) (a : Args inverse.signature κs) (r s : Res inverse.signature κs) (x y : AtExit inverse.ended κs)
       → ent 𝓤 (sep 𝓤 ((inverse.clauses 𝓛 mem run κs a).ensures tt r x) ((inverse.clauses 𝓛 mem run κs a).ensures tt s y))
       (fact 𝓤 ((r ≡ s) × (x.1.0.now ≡ y.1.0.now) × (x.1.1.1.0.now ≡ y.1.1.1.0.now)))
-  inverse-one κs a r s x y = facts _ _ _ leaves-one
+  inverse-one κs a r s x y = facts _ _ _ leaves-once
 
   pub depth-one : (κs : Lfts 2) (a : Args depth.signature κs) (r s : Res depth.signature κs) (x y : AtExit depth.ended κs)
       → ent 𝓤 (sep 𝓤 ((depth.clauses 𝓛 mem run κs a).ensures tt r x) ((depth.clauses 𝓛 mem run κs a).ensures tt s y))
       (fact 𝓤 (r ≡ s))
-  depth-one κs a r s x y = facts _ _ _ (λ p q. p ∙ sym q)
+  depth-one κs a r s x y = facts _ _ _ fathoms-once
 
   pub check-one : (κs : Lfts 2) (a : Args check.signature κs) (r s : Res check.signature κs) (x y : AtExit check.ended κs)
       → ent 𝓤 (sep 𝓤 ((check.clauses 𝓛 mem run κs a).ensures tt r x) ((check.clauses 𝓛 mem run κs a).ensures tt s y))
@@ -135,7 +130,7 @@ module _ {M : Type 1} {𝓤 : Ura M} (𝓛 : Logic 𝓤) (mem : Memory → SProp
   pub collect-opened-one : (κs : Lfts 4) (a : Args collect-opened.signature κs) (r s : Res collect-opened.signature κs) (x y : AtExit collect-opened.ended κs)
       → ent 𝓤 (sep 𝓤 ((collect-opened.clauses 𝓛 mem run κs a).ensures tt r x) ((collect-opened.clauses 𝓛 mem run κs a).ensures tt s y))
       (fact 𝓤 ((r ≡ s) × (x.1.0.now ≡ y.1.0.now) × (x.1.1.1.1.0.now ≡ y.1.1.1.1.0.now)))
-  collect-opened-one κs a r s x y = facts _ _ _ leaves-one
+  collect-opened-one κs a r s x y = facts _ _ _ leaves-once
 
 -- ---- what a call over the record says, beside what the plain one says
 -- The parameters after the first.
@@ -175,10 +170,11 @@ module _ {M : Type 1} {𝓤 : Ura M} (𝓛 : Logic 𝓤) (mem : Memory → SProp
   check-as-plain κs a r = refl
 
 -- ---- a record that was put together by hand
-abbrev pub remade : Presentation → ℕ → ℕ → ℕ → Presentation
-remade d x y z = record { number = x; p = record { 0 = y }; n = record { 0 = z }; numbers = d.numbers }
+abbrev pub remade : Presentation → Result (Unit {0}) Refusal → ℕ → ℕ → Presentation
+remade d x y z = record { judged = x; p = record { 0 = y }; n = record { 0 = z }; numbers = d.numbers }
 
-module _ {M : Type 1} {𝓤 : Ura M} (𝓛 : Logic 𝓤) (mem : Memory → SProp 𝓤) (run : Routine → Fun 𝓤) (d : Presentation) (x y z : ℕ) where
+module _ {M : Type 1} {𝓤 : Ura M} (𝓛 : Logic 𝓤) (mem : Memory → SProp 𝓤) (run : Routine → Fun 𝓤) (d : Presentation)
+    (x : Result (Unit {0}) Refusal) (y z : ℕ) where
   pub word-of-ignores : (κs : Lfts 1) (a : Denots (types_at (rest_of (word_of.signature).params) κs))
       → word_of.spec 𝓛 mem run κs (d, a) ≡ word_of.spec 𝓛 mem run κs (remade d x y z, a)
   word-of-ignores κs a = refl

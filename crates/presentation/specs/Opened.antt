@@ -6,6 +6,7 @@ use Rattle.std.specs.Borrow.{Bor}
 use Rattle.layout.specs.declared.View.{View}
 use Rattle.layout.specs.Header.{prime_of, rank_of}
 use Rattle.layout.specs.Judged.{judged}
+use Rattle.layout.specs.Refusals.{given}
 use Rattle.presentation.specs.declared.Presentation.{Presentation}
 
 -- Of numbers that were accepted, or not: "a refused opening has p and n 0 and stands over no numbers".
@@ -52,7 +53,7 @@ pub record Stands (lent held : Bor (List ℕ)) : Type 0 where
 
 -- The record that opening hands back, field by field.
 pub record Opens (lent : Bor (List ℕ)) (opened : Presentation) : Type 0 where
-  pub number : opened.number ≡ judged lent.now
+  pub number : given opened.judged ≡ judged lent.now
   pub prime : opened.p.0 ≡ prime_in lent.now
   pub rank : opened.n.0 ≡ rank_in lent.now
   pub stands : Stands lent opened.numbers

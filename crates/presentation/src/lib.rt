@@ -1,29 +1,28 @@
 // The opened presentation: a record over the lent numbers, and the calls over it.
 //
-// Opening gives the record and the number, which is a field of the record itself. The record is passed by value: it is copied like a
-// number and holds no `&mut`. Each call over it takes the record apart and calls the function on plain parameters on its numbers: that
-// one judges the numbers afresh, and the record's number, p and n are read by no call. A record that was put together by hand, with
-// another p or n, changes nothing.
+// Opening gives the record, and whether the numbers are accepted is a field of the record itself. The record is passed by value: it is
+// copied like a number and holds no `&mut`. Each call over it takes the record apart and calls the function on plain parameters on its
+// numbers: that one judges the numbers afresh, and what the record says it was judged, its p and its n are read by no call. A record
+// that was put together by hand, with another p or n, changes nothing. Each call is a function of this name and these parameters, as
+// README has them.
 #![tactic(auto)]
-
-mod opening; // the record's fields, from the lent numbers and the number that they got
 
 ghost use Rattle.std.specs.Prelude.{◌≡◌, ◌/◌, length};
 ghost use Rattle.layout.specs.Contents.{Lies};
 ghost use Rattle.layout.specs.Words.{word_of, word_at};
-ghost use Rattle.collector.specs.Calls.{collect_call, product_call, inverse_call, depth_call, Leaves};
+ghost use Rattle.collector.specs.Calls.{collect_call, product_call, inverse_call, depth_call, Leaves, Fathoms};
 ghost use Rattle.consistency.specs.Check.{check_of, work_after};
 ghost use Rattle.presentation.specs.Opened.{stood, Opens};
 
-use collector::{Answer, DepthAnswer};
+use collector::Answer;
 use consistency::Checked;
-use layout::{Exponent, Generator, judge};
-use opening::{standing, view_in};
+use layout::{Exponent, Generator, Refusal, accept};
 
+// A record and no `Result`: a refused opening is promised to be one too, of which p and n are 0 and which stands over no numbers.
 #[derive(Clone, Copy)]
 pub struct Presentation<'a> {
-    // The number that opening gave: 0 if the numbers are accepted.
-    pub number: u8,
+    // Whether the numbers are accepted, or why not.
+    pub judged: Result<(), Refusal>,
     // p, and the last generator, x_n; both 0 if they are refused.
     pub p: Exponent,
     pub n: Generator,
@@ -31,17 +30,22 @@ pub struct Presentation<'a> {
     pub numbers: &'a [u16],
 }
 
-pub fn open<'a>(numbers: &'a [u16]) -> Presentation<'a>
+pub fn open(numbers: &[u16]) -> Presentation<'_>
     ensures { Opens numbers.entry result }
 {
-    let number = judge(numbers);
-    let view = view_in(numbers, number);
-    let held = standing(numbers, number);
-    Presentation {
-        number: number,
-        p: view.prime,
-        n: view.rank,
-        numbers: held,
+    match accept(numbers) {
+        Ok(group) => Presentation {
+            judged: Ok(()),
+            p: group.view.prime,
+            n: group.view.rank,
+            numbers: group.numbers,
+        },
+        Err(refusal) => Presentation {
+            judged: Err(refusal),
+            p: Exponent(0),
+            n: Generator(0),
+            numbers: &numbers[..0],
+        },
     }
 }
 
@@ -90,8 +94,8 @@ pub fn inverse(
     collector::inverse(presentation.numbers, vector, budget, work)
 }
 
-pub fn depth(presentation: Presentation, vector: &[u8]) -> DepthAnswer
-    ensures { result ≡ depth_call presentation.entry.numbers.now vector.now }
+pub fn depth(presentation: Presentation, vector: &[u8]) -> Result<u16, Refusal>
+    ensures { Fathoms (depth_call presentation.entry.numbers.now vector.now) result }
 {
     collector::depth(presentation.numbers, vector)
 }

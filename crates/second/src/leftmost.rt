@@ -1,59 +1,45 @@
 // The leftmost non-normal subword of a row of letters.
-ghost use Rattle.std.specs.Prelude.{◌≡◌, ◌+◌, ◌≤◌, ◌<◌, length};
+ghost use Rattle.std.specs.Prelude.{◌+◌, ◌≤◌, ◌<◌, MatchOption};
 ghost use Rattle.second.specs.Normal.{Rises, Changes, Normal};
+ghost use Rattle.second.specs.Reach.{reach};
 
-// How many equal letters stand in a row from `at` on, counted up to p.
-fn run_at(letters: &[u16], len: usize, at: usize, p: usize) -> usize
-    requires { (at < len) × (len ≤ length letters.now) }
-    ensures result_bound { (at + result ≤ len) × (result ≤ p) }
-    ensures stops { result < p → Changes letters.now len p at }
-{
-    let g = letters[at];
-    let mut k: usize = 0;
-    while k < p {
-        if at + k >= len {
-            return k;
-        }
-        if letters[at + k] != g {
-            return k;
-        }
-        k += 1;
-    }
-    k
+use crate::Row;
+
+// A non-normal subword: p equal letters, or a letter above the next.
+#[derive(Clone, Copy, PartialEq, Eq, Debug)]
+pub enum Kind {
+    Equal,
+    Falls,
 }
 
-// What begins at `at`: 1, p equal letters; 2, a letter above the next; 0, neither.
-pub fn kind_at(letters: &[u16], len: usize, at: usize, p: usize) -> u8
-    requires { (at < len) × (len ≤ length letters.now) }
-    ensures upper_bound { result ≤ 2 }
-    ensures equal { result ≡ 1 → at + p ≤ len }
-    ensures falls { result ≡ 2 → at + 2 ≤ len }
-    ensures quiet { result ≡ 0 → Rises letters.now len at × Changes letters.now len p at }
-{
-    if run_at(letters, len, at, p) == p {
-        return 1;
-    }
-    if at + 1 >= len {
-        return 0;
-    }
-    if letters[at + 1] < letters[at] {
-        return 2;
-    }
-    0
-}
-
-// The first place at which a non-normal subword starts; `len` where there is none.
-pub fn leftmost(letters: &[u16], len: usize, p: usize) -> usize
-    requires { len ≤ length letters.now }
-    ensures upper_bound { result ≤ len }
-    ensures normal { result ≡ len → Normal letters.now len p }
-{
-    let mut at: usize = 0;
-    while at < len {
-        if kind_at(letters, len, at, p) != 0 {
-            return at;
+impl<const N: usize> Row<N> {
+    // What begins at `at`.
+    fn kind_at(&self, at: usize, p: usize) -> Option<Kind>
+        requires { at < self.now.len }
+        ensures { MatchOption result (Rises self.now.letters self.now.len at × Changes self.now.letters self.now.len p at)
+            (λ kind. at + reach kind p ≤ self.now.len) }
+    {
+        let letters = &self.letters[..];
+        let g = letters[at];
+        if p <= self.len - at && letters[at..at + p].iter().all(|x| *x == g) {
+            return Some(Kind::Equal);
         }
-        at += 1;
+        if at + 1 < self.len && letters[at + 1] < letters[at] {
+            return Some(Kind::Falls);
+        }
+        None
     }
-    at
+
+    // The first place at which a non-normal subword starts, and its kind.
+    pub fn leftmost(&self, p: usize) -> Option<(usize, Kind)>
+        ensures { MatchOption result (Normal self.now.letters self.now.len p)
+            (λ found. (found.0 < self.now.len) × (found.0 + reach found.1 p ≤ self.now.len)) }
+    {
+        for at in 0..self.len {
+            if let Some(kind) = self.kind_at(at, p) {
+                return Some((at, kind));
+            }
+        }
+        None
+    }
 }

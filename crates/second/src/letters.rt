@@ -1,139 +1,89 @@
-// The lent letters: closing a gap, opening one, and spelling the pairs of a word out into it.
-ghost use Rattle.std.specs.Prelude.{◌≡◌, ◌+◌, ◌*◌, ◌-◌, ◌≤◌, ◌<◌, length};
+// Changing a row of letters: closing a gap, and spelling words and vectors out into it; and counting its letters.
+ghost use Rattle.std.specs.Prelude.{◌≡◌, ◌+◌, ◌-◌, ◌≤◌, length, OnOk};
 
-use crate::Grown;
-use crate::relation::wide;
+use crate::{Fault, Row};
 
-// Takes out the k letters from `at` on: the later ones move up to it.
-pub fn close(letters: &mut [u16], len: usize, at: usize, k: usize) -> usize
-    requires { (at + k ≤ len) × (len ≤ length letters.old) }
-    ensures value { result ≡ len - k }
-    ensures letters_len_unchanged { length letters.new ≡ length letters.old }
-{
-    let mut m = at;
-    while m < len - k {
-        letters[m] = letters[m + k];
-        m += 1;
+impl<const N: usize> Row<N> {
+    // No letters yet.
+    pub fn new() -> Row<N>
+        ensures { result.len ≡ 0 }
+    {
+        Row {
+            letters: [0; N],
+            len: 0,
+        }
     }
-    len - k
-}
 
-// Makes a gap of k letters at `at`: the later ones move down, the last one first.
-pub fn open(letters: &mut [u16], len: usize, at: usize, k: usize) -> usize
-    requires { (at ≤ len) × (len + k ≤ length letters.old) }
-    ensures value { result ≡ len + k }
-    ensures letters_len_unchanged { length letters.new ≡ length letters.old }
-{
-    let mut m = len;
-    while at < m {
-        m -= 1;
-        letters[m + k] = letters[m];
+    // Takes out the k letters from `at` on: the later ones move up to it.
+    pub fn close(&mut self, at: usize, k: usize)
+        requires { at + k ≤ self.old.len }
+        ensures { self.new.len ≡ self.old.len - k }
+    {
+        let len = self.len;
+        self.letters.copy_within(at + k..len, at);
+        self.len = len - k;
     }
-    len + k
-}
 
-// The letter at `at` and the one after it change places.
-pub fn swap(letters: &mut [u16], at: usize)
-    requires { at + 2 ≤ length letters.old }
-    ensures { length letters.new ≡ length letters.old }
-{
-    let first = letters[at];
-    letters[at] = letters[at + 1];
-    letters[at + 1] = first;
-}
-
-fn least(a: usize, b: usize) -> usize
-    ensures { (result ≤ a) × (result ≤ b) }
-{
-    if a < b {
-        return a;
+    // Puts k letters g before the letter at `at`: it and the later ones move down.
+    fn insert(&mut self, at: usize, g: u16, k: usize) -> Result<(), Fault>
+        requires { at ≤ self.old.len }
+        ensures { OnOk result (self.new.len ≡ self.old.len + k) }
+    {
+        let len = self.len;
+        if k > N - len {
+            return Err(Fault::NoRoom);
+        }
+        let letters = &mut self.letters[..];
+        letters.copy_within(at..len, at + k);
+        letters[at..at + k].fill(g);
+        self.len = len + k;
+        Ok(())
     }
-    b
-}
 
-// Puts k letters g from `at` on, as many as there is room for, and gives back the place after them.
-fn repeat(letters: &mut [u16], at: usize, g: u16, k: usize) -> usize
-    requires { at ≤ length letters.old }
-    ensures upper_bound { result ≤ length letters.old }
-    ensures letters_len_unchanged { length letters.new ≡ length letters.old }
-{
-    let end = at + least(k, letters.len() - at);
-    let mut m = at;
-    while m < end {
-        letters[m] = g;
-        m += 1;
+    // Puts the letters of a word of pairs generator, exponent before the letter at `at`.
+    pub fn insert_word(&mut self, word: &[u16], at: usize) -> Result<(), Fault>
+        requires { at ≤ self.old.len }
+    {
+        let mut to = at;
+        for [g, e] in word.as_chunks::<2>().0 {
+            let k = usize::from(*e);
+            self.insert(to, *g, k)?;
+            to += k;
+        }
+        Ok(())
     }
-    end
-}
 
-// How many letters the pairs of a word have.
-fn size(numbers: &[u16], start: usize, pairs: usize) -> usize
-    requires { (start + 2 * pairs ≤ length numbers.now) × (pairs ≤ 65535) }
-    ensures { result ≤ 65535 * pairs }
-{
-    let mut sum: usize = 0;
-    let mut m: usize = 0;
-    while m < pairs {
-        sum += wide(numbers[start + 2 * m + 1]);
-        m += 1;
+    // Appends a word of pairs generator, exponent.
+    pub fn append_word(&mut self, word: &[u16]) -> Result<(), Fault> {
+        let end = self.len;
+        self.insert_word(word, end)
     }
-    sum
-}
 
-// The letters of the pairs of a word, written from `at` on.
-fn spell(numbers: &[u16], start: usize, pairs: usize, letters: &mut [u16], at: usize) -> usize
-    requires { (start + 2 * pairs ≤ length numbers.now) × (at ≤ length letters.old) }
-    ensures upper_bound { result ≤ length letters.old }
-    ensures letters_len_unchanged { length letters.new ≡ length letters.old }
-{
-    let mut to = at;
-    let mut m: usize = 0;
-    while m < pairs {
-        to = repeat(
-            letters,
-            to,
-            numbers[start + 2 * m],
-            wide(numbers[start + 2 * m + 1]),
-        );
-        m += 1;
+    // Appends the normal word of a vector: x_1 as often as its first entry says, and so on, up to 40 entries.
+    pub fn append_vector(&mut self, vector: &[u8]) -> Result<(), Fault> {
+        for (g, e) in (1..=40).zip(vector) {
+            let end = self.len;
+            self.insert(end, g, usize::from(*e))?;
+        }
+        Ok(())
     }
-    to
-}
 
-// Inserts the letters of a word before the letter at `at`.
-pub fn insert(
-    numbers: &[u16],
-    start: usize,
-    pairs: usize,
-    letters: &mut [u16],
-    len: usize,
-    at: usize,
-) -> Grown
-    requires { (start + 2 * pairs ≤ length numbers.now) × (pairs ≤ 65535) × (at ≤ len) × (len ≤ length letters.old) }
-    ensures state_bound { (result.state ≤ 2) × (result.len ≤ length letters.old) }
-    ensures letters_len_unchanged { length letters.new ≡ length letters.old }
-{
-    let k = size(numbers, start, pairs);
-    if k > letters.len() - len {
-        return Grown { state: 2, len: len };
-    }
-    let grown = open(letters, len, at, k);
-    let end = spell(numbers, start, pairs, letters, at);
-    Grown {
-        state: 0,
-        len: grown,
+    // The vector of a normal word: each entry becomes the number of its generator's letters.
+    pub fn vector_of(&self, vector: &mut [u8]) -> Result<(), Fault>
+        ensures { length vector.new ≡ length vector.old }
+    {
+        vector.fill(0);
+        for g in &self.letters[..self.len] {
+            one_more(vector, usize::from(*g))?;
+        }
+        Ok(())
     }
 }
 
-// k letters g after the first `len`; nothing where they do not fit.
-pub fn append(letters: &mut [u16], len: usize, g: u16, k: usize) -> Grown
-    requires { len ≤ length letters.old }
-    ensures state_bound { (result.state ≤ 2) × (result.len ≤ length letters.old) }
-    ensures letters_len_unchanged { length letters.new ≡ length letters.old }
-{
-    if k > letters.len() - len {
-        return Grown { state: 2, len: len };
-    }
-    let end = repeat(letters, len, g, k);
-    Grown { state: 0, len: end }
+// Counts one letter into its entry.
+fn one_more(vector: &mut [u8], g: usize) -> Result<(), Fault> {
+    let at = g.checked_sub(1).ok_or(Fault::NoEntry)?;
+    let entry = vector.get_mut(at).ok_or(Fault::NoEntry)?;
+    *entry = entry.checked_add(1).ok_or(Fault::NoEntry)?;
+    Ok(())
 }

@@ -7,7 +7,7 @@ use native.Mathlib.Numerals.{add-one}
 use lib.ListN.{length}
 use lib.Dec.{ltb}
 use Rattle.slots.specs.declared.Slot.{Slot}
-use Rattle.slots.specs.Slots.{stack, Pushed, Brought, on_top, pair_lessened, remaining_of}
+use Rattle.slots.specs.Slots.{stack, Pushed, Brought, on_top}
 use Rattle.slots.proofs.Stores.{length-stack}
 use Rattle.slots.proofs.OnTop.{put, not-put}
 
@@ -41,15 +41,3 @@ brought-from e l b =
       depth = b.depth ∙ ap (length {A = Slot}) e;
       stacked = λ room. b.stacked (omega arith) ∙ e;
     }
-
--- A string's rest, if there is one, and above it the power.
-module _ (text : List ℕ) (s k : ℕ) (after : Slot) (ws : List ℕ) (d : ℕ) where
-  pub string-none
-      : k ≤ 1 → {ws' : List ℕ} {r : ℕ} → Brought (pair_lessened text s (stack ws d)) ws ws' r
-      → Brought (remaining_of text s k after (stack ws d)) ws ws' r
-  string-none h b = brought-from (ap (pair_lessened text s) (sym (not-put 1 k after (stack ws d) h))) refl b
-
-  pub string-put
-      : 1 < k → {ws₁ ws' : List ℕ} {r : ℕ} → Pushed after ws d ws₁ → Brought (pair_lessened text s (stack ws₁ (d + 1))) ws₁ ws' r
-      → Brought (remaining_of text s k after (stack ws d)) ws ws' r
-  string-put h p b = brought-from (ap (pair_lessened text s) (p.stacked ∙ sym (put 1 k after (stack ws d) h))) p.kept b

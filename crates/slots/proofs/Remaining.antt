@@ -1,6 +1,6 @@
 -- What is left of a slot whose first letter was taken: it stands for what is left of what the slot stood for, and it stands.
 --
--- Main definition: `remaining`. Main laws: `meaning-remaining`, `standing-remaining`.
+-- Main definition: `remaining`. Main laws: `remaining-is`, `meaning-remaining`, `standing-remaining`, `rest-sound`.
 use mathlib.Core.Path.{◌≡◌, refl, sym, ap, ◌∙◌}
 use mathlib.Core.List.{List, ◌∷◌, map}
 use mathlib.Core.Bool.{Bool, true, false}
@@ -8,10 +8,13 @@ use Prim.Native.Nat.{ℕ, zero, suc, ◌+◌, ◌*◌, ◌-◌, ◌<◌}
 use native.Mathlib.Omega.{arith}
 use lib.ListN.{get_or}
 use lib.Dec.{ltb}
+use Rattle.std.specs.Prelude.{Option, Some, None, cond}
+use Rattle.std.proofs.Common.{subst}
+use Rattle.std.proofs.lemmas.Option.{cond_some}
 use borrow.Author.Tests.{ltb-true}
 use Rattle.slots.specs.declared.Slot.{Slot}
 use Rattle.slots.specs.declared.Slot.TheVariants.{Power, Relation, Input}
-use Rattle.slots.specs.Slots.{on_top, lessened, power_of, remaining_of}
+use Rattle.slots.specs.Slots.{Sound, on_top, lessened, power_of, front_of, rest_of, pair_lessened, remaining_of}
 use Rattle.slots.specs.Pieces.{Piece, power, string, stretch, meaning, rest, unread, Pair}
 use Rattle.slots.specs.Stacked.{Sources, Inside, Standing, AllStanding}
 use Rattle.slots.proofs.OnTop.{put, map-on_top}
@@ -22,6 +25,39 @@ abbrev pub remaining : List ℕ → List ℕ → Slot → List Slot → List Slo
 remaining bodies word (Power i e) below = lessened (power_of i) e.0 below
 remaining bodies word (Relation s k) below = remaining_of bodies s k (Relation (s + 1) (k - 1)) below
 remaining bodies word (Input s k) below = remaining_of word s k (Input (s + 1) (k - 1)) below
+
+-- The slots with a rest on top of them, if there is one.
+abbrev pub over : Option Slot → List Slot → List Slot
+over (Some after) below = after ∷ below
+over None below = below
+
+over-test : (t : Bool) (after : Slot) (below : List Slot) → on_top t after below ≡ over (cond t (Some after) None) below
+over-test true after below = refl
+over-test false after below = refl
+
+-- It is the rest, and above it the power that the slot begins with, lessened.
+pub remaining-is
+    : (bodies word : List ℕ) (x : Slot) (below : List Slot)
+    → remaining bodies word x below
+    ≡ lessened (power_of (front_of bodies word x).0) (front_of bodies word x).1.0 (over (rest_of x) below)
+remaining-is bodies word (Power i e) below = refl
+remaining-is bodies word (Relation s k) below =
+    ap (pair_lessened bodies s) (over-test (ltb 1 k) (Relation (s + 1) (k - 1)) below)
+remaining-is bodies word (Input s k) below =
+    ap (pair_lessened word s) (over-test (ltb 1 k) (Input (s + 1) (k - 1)) below)
+
+-- A rest can be stored.
+pub rest-sound
+    : (n : ℕ) (bodies word : List ℕ) (x y : Slot) → Sources n bodies word → Standing n bodies word x → rest_of x ≡ Some y → Sound y
+rest-sound n bodies word (Power i e) y src h r = cc
+rest-sound n bodies word (Relation s k) y src h r =
+    let is = cond_some (ltb 1 k) (Relation (s + 1) (k - 1)) y r in
+    let more : 1 < k = ltb-true 1 k is.0 in
+    subst Sound is.1 (omega arith)
+rest-sound n bodies word (Input s k) y src h r =
+    let is = cond_some (ltb 1 k) (Input (s + 1) (k - 1)) y r in
+    let more : 1 < k = ltb-true 1 k is.0 in
+    subst Sound is.1 (omega arith)
 
 -- A string is put back exactly if a pair of it remains.
 unread-stretch

@@ -1,29 +1,24 @@
--- The stack between two steps, for those who push and take: that it stands is kept, what it stands for follows along, and its
--- word begins with the top slot's generator.
+-- The stack between two steps, for those who push and take: its slots can be stored, they stand for pieces that are well formed,
+-- and its word begins with a generator.
 --
--- Main laws: `stacked-none`, `stacked-push`, `pieces-push`, `sound`, `letters-top`, `leading_top`, `stacked-widen`, `room_fits`.
-use mathlib.Core.Path.{◌≡◌, ap, ◌∙◌}
+-- Main laws: `length-pieces`, `all-well-formed`, `sound`, `standing-top`, `leading_top`, `stacked-widen`.
+use mathlib.Core.Path.{◌≡◌, ◌∙◌}
 use mathlib.Core.List.{List, [], ◌∷◌, map}
 use Prim.Native.Nat.{ℕ, ◌+◌, ◌*◌, ◌-◌, ◌/◌, ◌≤◌}
 use native.Mathlib.Omega.{arith}
 use lib.ListN.{length, get_or, length-map}
 use Rattle.slots.specs.declared.Slot.{Slot}
 use Rattle.slots.specs.declared.Slot.TheVariants.{Power, Relation, Input}
-use Rattle.slots.specs.Slots.{slot_at, stack, Sound, Pushed}
-use Rattle.slots.specs.Pieces.{string, stretch, meaning, pieces, letters, leading, taken, Pairs, WellFormed, AllWellFormed}
+use Rattle.slots.specs.Slots.{slot_at, stack, Sound}
+use Rattle.slots.specs.Pieces.{string, stretch, meaning, pieces, leading, Pairs, WellFormed, AllWellFormed}
 use Rattle.slots.specs.Stacked.{Sources, Inside, Standing, AllStanding, Stacked}
 use Rattle.slots.proofs.Stores.{stack_top, length-stack}
 use Rattle.slots.proofs.Strings.{stretch-step, pairs-stretch, pair-widen, pairs-widen}
-use Rattle.slots.proofs.Letters.{letters-taken, leading-one}
+use Rattle.slots.proofs.Letters.{leading-one}
 
 module _ (bodies word : List ℕ) where
   pub length-pieces : (ws : List ℕ) (d : ℕ) → length (pieces bodies word ws d) ≡ d
   length-pieces ws d = length-map (stack ws d) (meaning bodies word) ∙ length-stack ws d
-
-  pub pieces-push
-      : {x : Slot} {ws ws' : List ℕ} {d : ℕ} → Pushed x ws d ws'
-      → pieces bodies word ws' (d + 1) ≡ meaning bodies word x ∷ pieces bodies word ws d
-  pieces-push p = ap (map (meaning bodies word)) p.stacked
 
   module _ (n : ℕ) where
     well-formed-string : (text : List ℕ) (s k : ℕ) → Pairs n text → Inside text s k → WellFormed n (string (stretch text s k))
@@ -50,20 +45,6 @@ module _ (bodies word : List ℕ) where
     sound (Relation s k) src h = omega arith
     sound (Input s k) src h = omega arith
 
-    -- A stack starts on any workspace: what it held never matters.
-    pub stacked-none : (ws : List ℕ) → Sources n bodies word → Stacked n bodies word ws 0
-    stacked-none ws src = record { sources = src; fits = omega arith; slots = tt }
-
-    pub stacked-push
-        : {x : Slot} {ws ws' : List ℕ} {d : ℕ} → Stacked n bodies word ws d → Standing n bodies word x → 3 * (d + 1) ≤ length ws
-        → Pushed x ws d ws' → Stacked n bodies word ws' (d + 1)
-    stacked-push st h room p =
-        record {
-          sources = st.sources;
-          fits = omega arith;
-          slots = rw p.stacked (h, st.slots);
-        }
-
     -- The top slot stands.
     pub standing-top
         : {ws : List ℕ} {d : ℕ} (x : Slot) → 1 ≤ d → Stacked n bodies word ws d → slot_at ws (d - 1) ≡ x
@@ -75,13 +56,6 @@ module _ (bodies word : List ℕ) where
 
     some-pieces : (ws : List ℕ) (d : ℕ) → 1 ≤ d → 1 ≤ length (pieces bodies word ws d)
     some-pieces ws d h = let l : length (pieces bodies word ws d) ≡ d = length-pieces ws d in omega arith
-
-    -- The word begins with the top slot's generator, and goes on with what taking it leaves.
-    pub letters-top
-        : {ws : List ℕ} {d : ℕ} → 1 ≤ d → Stacked n bodies word ws d
-        → letters (pieces bodies word ws d) ≡ leading (pieces bodies word ws d) ∷ letters (taken (pieces bodies word ws d))
-    letters-top {ws} {d} h st =
-        letters-taken n (pieces bodies word ws d) (some-pieces ws d h) (all-well-formed (stack ws d) st.sources st.slots)
 
     -- The generator of the top slot is one of the n.
     pub leading_top

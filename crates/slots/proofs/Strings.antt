@@ -1,10 +1,11 @@
 -- Pairs that are read from a list: the first of a stretch, and what holds of all of them.
 --
 -- Main laws: `stretch-step`, `pairs-stretch`, `pairs-at`, `pairs-widen`.
-use mathlib.Core.Path.{◌≡◌, sym, ap, ◌∙◌}
+use mathlib.Core.Path.{◌≡◌}
 use mathlib.Core.List.{List, [], ◌∷◌}
 use Prim.Native.Nat.{ℕ, zero, suc, ◌+◌, ◌*◌, ◌-◌, ◌≤◌}
 use native.Mathlib.Omega.{arith}
+use native.Mathlib.Numerals.{add-one}
 use lib.ListN.{get_or, take, drop}
 use lib.Seq.{drop-cons}
 use Rattle.slots.specs.Pieces.{stretch, Pair, Pairs}
@@ -19,15 +20,8 @@ pub stretch-step
     → stretch ps s k ≡ get_or ps (2 * s) 0 ∷ get_or ps (2 * s + 1) 0 ∷ stretch ps (s + 1) (k - 1)
 stretch-step ps s k h =
     let count : 2 * k ≡ suc (suc (2 * (k - 1))) = omega arith in
-    let next : 2 * s + 1 ≡ suc (2 * s) = omega arith in
     let after : 2 * (s + 1) ≡ suc (suc (2 * s)) = omega arith in
-    let two : drop (2 * s) ps ≡ get_or ps (2 * s) 0 ∷ get_or ps (suc (2 * s)) 0 ∷ drop (suc (suc (2 * s))) ps =
-    drop-cons ps (2 * s) 0 (omega arith)
-    ∙ ap (λ (l : List ℕ). get_or ps (2 * s) 0 ∷ l) (drop-cons ps (suc (2 * s)) 0 (omega arith)) in
-    ap (λ (j : ℕ). take j (drop (2 * s) ps)) count
-    ∙ ap (λ (l : List ℕ). take (suc (suc (2 * (k - 1)))) l) two
-    ∙ ap (λ (j : ℕ). get_or ps (2 * s) 0 ∷ get_or ps j 0 ∷ take (2 * (k - 1)) (drop (suc (suc (2 * s))) ps)) (sym next)
-    ∙ ap (λ (j : ℕ). get_or ps (2 * s) 0 ∷ get_or ps (2 * s + 1) 0 ∷ take (2 * (k - 1)) (drop j ps)) (sym after)
+    rw (after, count, drop-cons ps (2 * s) 0 (omega arith), drop-cons ps (suc (2 * s)) 0 (omega arith), add-one (2 * s))
 
 module _ (n : ℕ) where
   pairs-drop : (s : ℕ) (ps : List ℕ) → Pairs n ps → Pairs n (drop (2 * s) ps)

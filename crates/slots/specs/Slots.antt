@@ -1,7 +1,9 @@
 -- The stack as the workspace holds it: three numbers a slot.
 --
--- Main definitions: `decode`, `stack`, and what storing a slot does, `Pushed`.
-use Rattle.std.specs.Prelude.{◌≡◌, List, [], ◌∷◌, Bool, true, false, ℕ, zero, suc, ◌+◌, ◌*◌, ◌-◌, ◌≤◌, length, get_or, set, ltb}
+-- Main definitions: `decode`, `stack`, what a slot begins with and leaves, `front_of`, `rest_of`, and what storing a slot does, `Pushed`.
+use Rattle.std.specs.Prelude.{◌≡◌, Option, Some, None, if◌then◌else◌}
+use Rattle.std.specs.Prelude.{List, [], ◌∷◌, Bool, true, false, ℕ, zero, suc, ◌+◌, ◌*◌, ◌-◌, ◌≤◌, length, get_or, set, ltb}
+use Rattle.layout.specs.declared.Exponent.{Exponent}
 use Rattle.layout.specs.declared.Generator.{Generator}
 use Rattle.slots.specs.declared.Slot.{Slot}
 use Rattle.slots.specs.declared.Slot.TheVariants.{Power, Relation, Input}
@@ -33,6 +35,22 @@ abbrev pub Sound : Slot → Type 0
 Sound (Power i e) = i.0 ≤ 40
 Sound (Relation start pairs) = start ≤ 10660
 Sound (Input start pairs) = start ≤ 4096
+
+-- The pair number s of a text.
+abbrev pub pair_of : List ℕ → ℕ → Generator × Exponent
+pair_of text s = (record { 0 = get_or text (2 * s) 0 }, record { 0 = get_or text (2 * s + 1) 0 })
+
+-- The power that a slot begins with: its own, or the first pair of its string.
+abbrev pub front_of : List ℕ → List ℕ → Slot → Generator × Exponent
+front_of bodies word (Power i e) = (i, e)
+front_of bodies word (Relation s k) = pair_of bodies s
+front_of bodies word (Input s k) = pair_of word s
+
+-- What is left of a slot below that power: nothing of a power, and of a string "the rest if any pair remains".
+abbrev pub rest_of : Slot → Option Slot
+rest_of (Power i e) = None
+rest_of (Relation s k) = if ltb 1 k then Some (Relation (s + 1) (k - 1)) else None
+rest_of (Input s k) = if ltb 1 k then Some (Input (s + 1) (k - 1)) else None
 
 -- The slot was put on the d slots of ws: ws' is the workspace then.
 pub record Pushed (slot : Slot) (ws : List ℕ) (d : ℕ) (ws' : List ℕ) : Type 0 where

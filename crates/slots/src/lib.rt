@@ -13,12 +13,14 @@
 // pairs of relation words and 4,096 of input. A string has the exponent 1, so that a power of a whole word has its place.
 //
 // A string is read where it stands: `bodies` is the part of the presentation from its first body on, `word` the input word.
+//
+// The workspace stays a lent `&mut [u16]` with the number of slots, `depth`, beside it: every call of the library promises that form.
 #![tactic(auto)]
 
 ghost use Rattle.std.specs.Prelude.{◌≡◌, ◌+◌, ◌*◌, ◌-◌, ◌/◌, ◌≤◌, ◌<◌, length, get_or, replicate};
-ghost use Rattle.slots.specs.Slots.{slot_at, stack, stored, Sound, Pushed, Brought, lessened, power_of, remaining_of};
+ghost use Rattle.slots.specs.Slots.{decode, slot_at, stack, Sound, Pushed, Brought, lessened, power_of, pair_of, front_of, rest_of};
 ghost use Rattle.slots.specs.Pieces.{pieces, leading};
-ghost use Rattle.slots.specs.Stacked.{Inside, Stacked, Took};
+ghost use Rattle.slots.specs.Stacked.{Standing, Stacked, Took};
 
 use layout::{Exponent, Generator};
 
@@ -27,12 +29,84 @@ const RELATION: u16 = 41;
 
 const INPUT: u16 = 20000;
 
-// A slot: a power, or the unread rest of a relation word or of the input word, from the pair number `start` on.
+// A slot: a power, or the unread rest of a relation word or of the input word, from the pair number `start` on. The two strings
+// have the same fields and are two variants, since each is read from a text of its own; callers make them by these names.
 #[derive(Clone, Copy)]
 pub enum Slot {
     Power(Generator, Exponent),
     Relation { start: u16, pairs: u16 },
     Input { start: u16, pairs: u16 },
+}
+
+impl From<[u16; 3]> for Slot {
+    ghost from_gives = { λ numbers slot. slot ≡ decode (get_or numbers 0 0) (get_or numbers 1 0) (get_or numbers 2 0) };
+
+    fn from([kind, pairs, exponent]: [u16; 3]) -> Slot {
+        match kind {
+            ..RELATION => Slot::Power(Generator(kind), Exponent(exponent)),
+            RELATION..INPUT => Slot::Relation {
+                start: kind - RELATION,
+                pairs,
+            },
+            INPUT.. => Slot::Input {
+                start: kind - INPUT,
+                pairs,
+            },
+        }
+    }
+}
+
+impl Slot {
+    // The three numbers that the workspace holds of the slot.
+    fn numbers(self) -> [u16; 3]
+        requires { Sound self }
+        ensures { decode (get_or result 0 0) (get_or result 1 0) (get_or result 2 0) ≡ self }
+    {
+        match self {
+            Slot::Power(i, e) => [i.0, 0, e.0],
+            Slot::Relation { start, pairs } => [RELATION + start, pairs, 1],
+            Slot::Input { start, pairs } => [INPUT + start, pairs, 1],
+        }
+    }
+
+    // The power that the slot begins with: its own, or the first pair of its string.
+    fn front(self, bodies: &[u16], word: &[u16]) -> (Generator, Exponent)
+        requires { Standing 40 bodies.now word.now self }
+        ensures { result ≡ front_of bodies.now word.now self }
+    {
+        match self {
+            Slot::Power(i, e) => (i, e),
+            Slot::Relation { start, .. } => pair_at(bodies, start),
+            Slot::Input { start, .. } => pair_at(word, start),
+        }
+    }
+
+    // What is left below that power: nothing of a power, and of a string "the rest if any pair remains".
+    fn rest(self) -> Option<Slot>
+        requires { Sound self }
+        ensures { result ≡ rest_of self }
+    {
+        match self {
+            Slot::Relation { start, pairs } if pairs > 1 => Some(Slot::Relation {
+                start: start + 1, // from the first body
+                pairs: pairs - 1,
+            }),
+            Slot::Input { start, pairs } if pairs > 1 => Some(Slot::Input {
+                start: start + 1, // from the beginning of the word
+                pairs: pairs - 1,
+            }),
+            _ => None,
+        }
+    }
+}
+
+// The pair number `start` of a text.
+fn pair_at(text: &[u16], start: u16) -> (Generator, Exponent)
+    requires { 2 * start + 1 < length text.now }
+    ensures { result ≡ pair_of text.now start }
+{
+    let at = 2 * usize::from(start);
+    (Generator(text[at]), Exponent(text[at + 1]))
 }
 
 // How many slots the workspace has room for.
@@ -48,32 +122,7 @@ pub fn top(work: &[u16], depth: usize) -> Slot
     ensures { result ≡ slot_at work.now (depth - 1) }
 {
     let at = 3 * (depth - 1);
-    let kind = work[at];
-    if kind < RELATION {
-        return Slot::Power(Generator(kind), Exponent(work[at + 2]));
-    }
-    let pairs = work[at + 1];
-    if kind < INPUT {
-        return Slot::Relation {
-            start: kind - RELATION,
-            pairs: pairs,
-        };
-    }
-    Slot::Input {
-        start: kind - INPUT,
-        pairs: pairs,
-    }
-}
-
-// The three numbers of slot number `depth`.
-fn store(work: &mut [u16], depth: usize, kind: u16, pairs: u16, exponent: u16)
-    requires { 3 * (depth + 1) ≤ length work.old }
-    ensures { work.new ≡ stored work.old depth kind pairs exponent }
-{
-    let at = 3 * depth;
-    work[at] = kind;
-    work[at + 1] = pairs;
-    work[at + 2] = exponent;
+    Slot::from([work[at], work[at + 1], work[at + 2]])
 }
 
 // Puts a slot on a stack of `depth` slots.
@@ -81,31 +130,15 @@ pub fn push(work: &mut [u16], depth: usize, slot: Slot)
     requires { (3 * (depth + 1) ≤ length work.old) × Sound slot }
     ensures { Pushed slot work.old depth work.new }
 {
-    match slot {
-        Slot::Power(i, e) => store(work, depth, i.0, 0, e.0),
-        Slot::Relation { start, pairs } => store(work, depth, RELATION + start, pairs, 1),
-        Slot::Input { start, pairs } => store(work, depth, INPUT + start, pairs, 1),
-    }
+    let at = 3 * depth;
+    [work[at], work[at + 1], work[at + 2]] = slot.numbers();
 }
 
 // Every number 0, also those past the last whole slot.
 pub fn clear(work: &mut [u16])
     ensures { work.new ≡ replicate (length work.old) 0 }
 {
-    let mut i = 0;
-    while i < work.len() {
-        work[i] = 0;
-        i += 1;
-    }
-}
-
-// The generator of the pair number `start`.
-fn generator_at(text: &[u16], start: u16) -> Generator
-    requires { 2 * start < length text.now }
-    ensures { result.0 ≡ get_or text.now (2 * start) 0 }
-{
-    let at = 2 * (start as usize);
-    Generator(text[at])
+    work.fill(0);
 }
 
 // The generator that the stack's letters begin with: the one that is placed next.
@@ -113,11 +146,7 @@ pub fn peek(bodies: &[u16], word: &[u16], work: &[u16], depth: usize) -> Generat
     requires { (1 ≤ depth) × Stacked 40 bodies.now word.now work.now depth }
     ensures { result.0 ≡ leading (pieces bodies.now word.now work.now depth) }
 {
-    match top(work, depth) {
-        Slot::Power(i, _) => i,
-        Slot::Relation { start, pairs: _ } => generator_at(bodies, start),
-        Slot::Input { start, pairs: _ } => generator_at(word, start),
-    }
+    top(work, depth).front(bodies, word).0
 }
 
 // "if e > 1 put back (i, e - 1)", on a stack of `depth` slots. Answers how many slots there are then; where the workspace has
@@ -130,36 +159,10 @@ fn lessen(work: &mut [u16], depth: usize, i: Generator, e: Exponent) -> usize
     if e.0 <= 1 {
         return depth;
     }
-    if work.len() < 3 * (depth + 1) {
-        return depth + 1;
+    if depth < room(work) {
+        push(work, depth, Slot::Power(i, Exponent(e.0 - 1)));
     }
-    push(work, depth, Slot::Power(i, Exponent(e.0 - 1)));
     depth + 1
-}
-
-// "put back the rest if any pair remains, and above it (i, a - 1) if a > 1": the string is the `pairs` pairs of `text` from
-// the pair number `start` on, `rest` is the slot of those after the first, and `depth` slots stand below.
-fn put_back(
-    text: &[u16],
-    start: u16,
-    pairs: u16,
-    work: &mut [u16],
-    depth: usize,
-    rest: Slot,
-) -> usize
-    requires inside { Inside text.now start pairs × (get_or text.now (2 * start) 0 ≤ 40) }
-    requires depth_in_bounds { (3 * (depth + 1) ≤ length work.old) × Sound rest }
-    ensures { Brought (remaining_of text.now start pairs rest (stack work.old depth))
-        work.old work.new result }
-{
-    let at = 2 * (start as usize);
-    let i = Generator(text[at]);
-    let a = Exponent(text[at + 1]);
-    if pairs <= 1 {
-        return lessen(work, depth, i, a);
-    }
-    push(work, depth, rest);
-    lessen(work, depth + 1, i, a)
 }
 
 // Takes the leading letter off the stack, as step 1 of a placing does, and answers how many slots are left. That is one more
@@ -169,22 +172,14 @@ pub fn take(bodies: &[u16], word: &[u16], work: &mut [u16], depth: usize) -> usi
     requires { (1 ≤ depth) × Stacked 40 bodies.now word.now work.old depth }
     ensures { Took bodies.now word.now work.old depth work.new result }
 {
+    let slot = top(work, depth);
+    let (i, e) = slot.front(bodies, word);
     let below = depth - 1;
-    match top(work, depth) {
-        Slot::Power(i, e) => lessen(work, below, i, e),
-        Slot::Relation { start, pairs } => {
-            let rest = Slot::Relation {
-                start: start + 1, // from the first body
-                pairs: pairs - 1,
-            };
-            put_back(bodies, start, pairs, work, below, rest)
+    match slot.rest() {
+        Some(rest) => {
+            push(work, below, rest);
+            lessen(work, depth, i, e)
         }
-        Slot::Input { start, pairs } => {
-            let rest = Slot::Input {
-                start: start + 1, // from the beginning of the word
-                pairs: pairs - 1,
-            };
-            put_back(word, start, pairs, work, below, rest)
-        }
+        None => lessen(work, below, i, e),
     }
 }

@@ -1,82 +1,71 @@
 -- The numbers of a file's bytes, one by one.
 --
--- Main laws: `numbers-length`, `number_at`, `unpacked`, `all-unpacked`, `store-next`, `store-end`.
-use mathlib.Core.Path.{◌≡◌, refl, sym, ap, ◌∙◌}
+-- Main laws: `numbers-length`, `number-at`, `store-next`, `store-end`.
+use mathlib.Core.Path.{◌≡◌, refl, ap, ◌∙◌}
 use mathlib.Core.List.{List, [], ◌∷◌}
-use Prim.Native.Nat.{ℕ, zero, suc, ◌+◌, ◌*◌, ◌/◌, ◌≤◌, ◌<◌, min}
+use Prim.Native.Nat.{ℕ, zero, suc, ◌+◌, ◌/◌, ◌≤◌, ◌<◌, min}
 use native.Mathlib.Omega.{arith, min_cases}
-use mathlib.Core.Logic.{◌⊎◌, inl, inr}
-use lib.ListN.{length, get_or, set, take, drop, length-set}
-use lib.Seq.{sets, sets-eq, take_at}
+use lib.ListN.{length, get_or, set, take, drop}
+use lib.Seq.{sets, set_out, drop-cons}
 use lib.ListN.{drop_of_length-le}
 use native.Mathlib.Numerals.{add-one}
-use Rattle.text.proofs.Joining.{sets-out, sets-step}
-use Rattle.text.specs.Numbers.{numbers_of, Unpacked}
+use Rattle.std.proofs.lemmas.List.{get_or-take, length-take}
+use Rattle.std.specs.Int.{from_le_bytes, w16}
+use Rattle.std.specs.Simd.{first_chunks}
+use Rattle.text.specs.Numbers.{numbers_of}
 
 pub numbers-length : (bytes : List ℕ) → length (numbers_of bytes) ≡ length bytes / 2
 numbers-length [] = refl
 numbers-length (low ∷ []) = refl
 numbers-length (low ∷ high ∷ bytes) = omega (arith, numbers-length bytes)
 
-pub number_at : (bytes : List ℕ) (i k : ℕ)
-    → k ≡ i + i
-    → suc k < length bytes
-    → get_or (numbers_of bytes) i 0 ≡ get_or bytes k 0 + 256 * get_or bytes (suc k) 0
-number_at [] i k e h = absurd (omega arith)
-number_at (low ∷ []) i k e h = absurd (omega arith)
-number_at (low ∷ high ∷ bytes) zero zero e h = refl
-number_at (low ∷ high ∷ bytes) zero (suc k) e h = absurd (omega arith)
-number_at (low ∷ high ∷ bytes) (suc i) zero e h = absurd (omega arith)
-number_at (low ∷ high ∷ bytes) (suc i) (suc zero) e h = absurd (omega arith)
-number_at (low ∷ high ∷ bytes) (suc i) (suc (suc k)) e h = number_at bytes i k (omega arith) (omega arith)
+-- The number at a place is that of the pair of bytes there.
+pub number-at : (bytes : List ℕ) (k i : ℕ) (none : List ℕ)
+    → i < k
+    → k ≡ length bytes / 2
+    → from_le_bytes w16 (get_or (first_chunks 2 k bytes) i none) ≡ get_or (numbers_of bytes) i 0
+number-at bytes zero i none h e = absurd (omega arith)
+number-at [] (suc k) i none h e = absurd (omega arith)
+number-at (low ∷ []) (suc k) i none h e = absurd (omega arith)
+number-at (low ∷ high ∷ bytes) (suc k) zero none h e = omega arith
+number-at (low ∷ high ∷ bytes) (suc k) (suc i) none h e = number-at bytes k i none (omega arith) (omega arith)
 
--- Where the count is reached, nothing is left to store, or there is no room for it.
-pub unpacked : (bytes old new : List ℕ) (count : ℕ)
-    → count ≡ min (length bytes / 2) (length old)
-    → length new ≡ length old
-    → sets new count (drop count (numbers_of bytes)) ≡ sets old 0 (numbers_of bytes)
-    → Unpacked bytes old new count
-unpacked bytes old new count e kept left = record { stored = sym (go reached) ∙ left; counted = e }
-  where
-    reached : (length bytes / 2 ≤ count) ⊎ (length new ≤ count)
-    reached = min_cases (length bytes / 2) (length old) _ (λ a m. inl (omega arith)) (λ b m. inr (omega arith))
+-- Stores past the end change nothing.
+sets-out : (a l : List ℕ) (i : ℕ) → length l ≤ i → sets l i a ≡ l
+sets-out [] l i h = refl
+sets-out (x ∷ a) l i h = rw (set_out l i x h) (sets-out a l (suc i) (omega arith))
 
-    rest : List ℕ
-    rest = drop count (numbers_of bytes)
+-- The store of one element more of a list.
+sets-step : (w l : List ℕ) (i : ℕ) → i < length w → sets (set l i (get_or w i 0)) (i + 1) (drop (i + 1) w) ≡ sets l i (drop i w)
+sets-step w l i h = rw (add-one i, drop-cons w i 0 h) refl
 
-    go : (length bytes / 2 ≤ count) ⊎ (length new ≤ count) → sets new count rest ≡ new
-    go (inl done) = ap (λ (l : List ℕ). sets new count l) (drop_of_length-le (numbers_of bytes) {i = count} (omega (arith, numbers-length bytes)))
-    go (inr full) = sets-out rest new count full
-
--- Where there is room for all, the first `count` are the bytes' numbers.
-pub all-unpacked : {bytes old new : List ℕ} {count : ℕ}
-    → Unpacked bytes old new count
-    → length bytes / 2 ≤ length old
-    → take count new ≡ numbers_of bytes
-all-unpacked {bytes} {old} {new} {count} u room =
-    let many : length (numbers_of bytes) ≡ count = numbers-length bytes ∙ omega (arith, u.counted) in
-    let within : 0 + length (numbers_of bytes) ≤ length old = omega (arith, u.counted) in
-    rw (u.stored, sets-eq (numbers_of bytes) old 0 within) (take_at (numbers_of bytes) (drop (0 + length (numbers_of bytes)) old) count many)
-
--- The steps of the code: the store of the number at the place i, after which the rest goes to the next place ..
-pub store-next : (bytes l : List ℕ) (i number : ℕ)
-    → i < length bytes / 2
-    → number ≡ get_or bytes (2 * i) 0 + 256 * get_or bytes (2 * i + 1) 0
+-- The steps of the code, which goes through as many pairs of bytes as there is room for: the store of the number of the pair i, after
+-- which the rest goes to the next place ..
+pub store-next : (bytes l : List ℕ) (pairs : List (List ℕ)) (i count number : ℕ)
+    → pairs ≡ first_chunks 2 (length bytes / 2) bytes
+    → length pairs ≡ length bytes / 2
+    → i < length (take count pairs)
+    → number ≡ from_le_bytes w16 (get_or (take count pairs) i [])
     → sets (set l i number) (i + 1) (drop (i + 1) (numbers_of bytes)) ≡ sets l i (drop i (numbers_of bytes))
-store-next bytes l i number h e =
+store-next bytes l pairs i count number cut many h e =
     ap
     (λ (x : ℕ). sets (set l i x) (i + 1) (drop (i + 1) (numbers_of bytes)))
-    (e ∙ rw (add-one (2 * i)) (sym (number_at bytes i (2 * i) (omega arith) (omega arith))))
-    ∙ sets-step (numbers_of bytes) l i i (i + 1) refl (omega (arith, numbers-length bytes))
+    (e
+    ∙ ap (λ (pair : List ℕ). from_le_bytes w16 pair) (get_or-take count pairs i [] (omega (arith, length-take count pairs)))
+    ∙ ap (λ (l : List (List ℕ)). from_le_bytes w16 (get_or l i [])) cut
+    ∙ number-at bytes (length bytes / 2) i [] (omega (arith, length-take count pairs, many)) refl)
+    ∙ sets-step (numbers_of bytes) l i (omega (arith, length-take count pairs, numbers-length bytes, many))
 
 -- .. and where the count is reached, nothing of it is stored.
-pub store-end : (bytes l : List ℕ) (count : ℕ)
-    → min (length bytes / 2) (length l) ≤ count
-    → sets l count (drop count (numbers_of bytes)) ≡ l
-store-end bytes l count h =
-    min_cases (length bytes / 2) (length l) _
-    (λ a m. ap (λ (t : List ℕ). sets l count t) (drop_of_length-le (numbers_of bytes) {i = count} (omega (arith, numbers-length bytes))))
-    (λ b m. sets-out (drop count (numbers_of bytes)) l count (omega arith))
+pub store-end : (bytes l : List ℕ) (pairs : List (List ℕ)) (i count : ℕ)
+    → length pairs ≡ length bytes / 2
+    → length (take count pairs) ≤ i
+    → count ≡ min (length pairs) (length l)
+    → sets l i (drop i (numbers_of bytes)) ≡ l
+store-end bytes l pairs i count many h e =
+    min_cases (length pairs) (length l) _
+    (λ a m. ap (λ (t : List ℕ). sets l i t) (drop_of_length-le (numbers_of bytes) {i = i} (omega (arith, length-take count pairs, many, numbers-length bytes))))
+    (λ b m. sets-out (drop i (numbers_of bytes)) l i (omega (arith, length-take count pairs)))
 
 -- For `numbers_of`.
-pub ruleset steps = (store-next, store-end, length-set)
+pub ruleset steps = (store-next, store-end)

@@ -2,4 +2,3 @@
 pub mod Numbers
 pub mod Ascii
 pub mod Decimal
-pub mod Added

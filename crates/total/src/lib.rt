@@ -1,12 +1,32 @@
-// What the witness programs (trials, foreign, corners) have in common: arithmetic, reading and storing that ask nothing of their
-// callers, and printing. The programs are proved safe and no more, so the functions here promise what that needs and no more.
+// What the witness programs (trials, foreign, corners) have in common: parts of slices and storing that ask nothing of their callers, and
+// printing. The programs are proved safe and no more, so the functions here promise what that needs and no more.
 #![tactic(auto)]
 
-pub mod arith; // sums that stay in range, and reading and storing that stay in bounds
-pub mod print; // numbers and vectors on standard output
+use std::fmt::Display;
+use std::io;
 
-pub use arith::{
-    at_most, difference, entry_at, from_byte, from_word, more, number_at, part, pick, power,
-    quotient, rest, step, store_entry, store_number, stretch, sum, times, to_byte, to_word,
-};
-pub use print::{print_entries, print_numbers};
+// The first elements, as many as `len` says, or all of them if there are fewer.
+pub fn part<T>(of: &[T], len: usize) -> &[T] {
+    of.get(..len).unwrap_or(of)
+}
+
+// The same of a slice that is written to, which is another type.
+pub fn part_mut<T>(of: &mut [T], len: usize) -> &mut [T] {
+    let end = len.min(of.len());
+    &mut of[..end]
+}
+
+// Stores an element; nothing past the end.
+pub fn store<T: Drop>(row: &mut [T], at: usize, x: T) {
+    if let Some(place) = row.get_mut(at) {
+        *place = x;
+    }
+}
+
+// Prints numbers, each with a space before it.
+pub fn print_row<T: Display>(rt: &impl Print, row: &[T]) -> io::Result<()> {
+    for x in row {
+        print!(rt; " {x}")?;
+    }
+    Ok(())
+}

@@ -1,38 +1,37 @@
 // Printing: a case on which the collectors disagree, and the line of counts.
 use crate::Tally;
+use crate::calls::Call;
+use crate::groups::{Group, Vector};
 use std::io;
-use total::{print_entries, print_numbers};
+use total::{part, print_row};
 
-// The beginning of a case: the call, the presentation's numbers and the vector. The word or the right factor comes after it.
-pub fn disagreement(
-    rt: &impl Print,
-    numbers: &[u16],
-    vector: &[u8],
-    call: &[u8],
-) -> io::Result<()> {
-    print!(rt; "the collectors disagree on ")?;
-    rt.write_all(call)?;
-    print!(rt; ": numbers")?;
-    print_numbers(rt, numbers)?;
+// A case: the call, the presentation's numbers and the vector, and the word or the right factor.
+pub fn disagreement(rt: &impl Print, group: Group, vector: Vector, call: Call) -> io::Result<()> {
+    let n = usize::from(group.n);
+    print!(rt; "the collectors disagree on {call}: numbers")?;
+    print_row(rt, group.numbers)?;
     print!(rt; "; vector")?;
-    print_entries(rt, vector)?;
-    print!(rt; "; with")
-}
-
-pub fn end_of_case(rt: &impl Print) -> io::Result<()> {
+    print_row(rt, part(&vector, n))?;
+    print!(rt; "; with")?;
+    match call {
+        Call::Word(word) => print_row(rt, word)?,
+        Call::Product(right) => print_row(rt, part(&right, n))?,
+        Call::Inverse => {}
+    }
     println!(rt)
 }
 
-fn counted(rt: &impl Print, count: u64, of: &[u8]) -> io::Result<()> {
-    print!(rt; "{count}")?;
-    rt.write_all(of)
-}
-
-pub fn summary(rt: &impl Print, tally: Tally) -> io::Result<()> {
-    counted(rt, tally.presentations, b" presentations, ")?;
-    counted(rt, tally.collections, b" words, ")?;
-    counted(rt, tally.products, b" products, ")?;
-    counted(rt, tally.inverses, b" inverses, ")?;
-    counted(rt, tally.replacements, b" replacements: ")?;
-    counted(rt, tally.wrong, b" disagreements\n")
+pub fn summary(rt: &impl Print, tally: &Tally) -> io::Result<()> {
+    let Tally {
+        presentations,
+        words,
+        products,
+        inverses,
+        replacements,
+        wrong,
+    } = *tally;
+    print!(rt;
+        "{presentations} presentations, {words} words, {products} products, {inverses} inverses, "
+    )?;
+    println!(rt; "{replacements} replacements: {wrong} disagreements")
 }

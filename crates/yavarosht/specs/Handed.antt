@@ -5,8 +5,7 @@
 use Rattle.std.specs.Prelude.{◌≡◌, List, ℕ, length}
 use Rattle.layout.specs.Judged.{judged}
 use Rattle.layout.specs.Words.{word_of, word_at}
-use Rattle.collector.specs.Calls.{Left}
-use Rattle.collector.specs.declared.DepthAnswer.{DepthAnswer}
+use Rattle.collector.specs.Calls.{Left, DepthAnswer}
 
 -- Of collecting, a product or an inverse.
 pub record Handed (left : Left) (number count : ℕ) (vector work : List ℕ) : Type 0 where

@@ -12,8 +12,8 @@ use Rattle.consistency.specs.Check.{check_of, work_after}
 abbrev pub verdict_number : Verdict → ℕ
 verdict_number Pass = number_of Pass
 verdict_number (Differs o) = 11
-verdict_number (Refused number) = number_of (Refused number)
-verdict_number (Stopped number o) = number_of (Stopped number o)
+verdict_number (Refused refusal) = number_of (Refused refusal)
+verdict_number (Stopped refusal o) = number_of (Stopped refusal o)
 
 -- What the check hands out: the verdict of these numbers with this budget and the room of this workspace, its two vectors, and the
 -- workspace as the call below leaves it.

@@ -1,10 +1,28 @@
 // Collecting, products, inverses and depths, under C names. An answer's number is what a function returns, its count (or depth) what it
 // stores. The order of the parameters is that of the calls, and what is stored comes last.
 ghost use Rattle.std.specs.Prelude.{◌≡◌};
+ghost use Rattle.collector.specs.Given.{number_in, count_in};
 ghost use Rattle.collector.specs.Calls.{collect_call, product_call, inverse_call, depth_call};
 ghost use Rattle.yavarosht.specs.Handed.{Handed, HandedDepth};
 
-use collector::{collect, depth, inverse, product};
+use collector::{Answer, collect, depth, inverse, product};
+
+// Stores the count of an answer and gives its number: at the C interface an answer is these two, for C has no `Result`.
+fn hand_out(answer: Answer, count: &mut u32) -> u8
+    ensures number { result ≡ number_in answer }
+    ensures count_after { count.new ≡ count_in answer }
+{
+    match answer {
+        Ok(replacements) => {
+            *count = replacements;
+            0
+        }
+        Err(refused) => {
+            *count = refused.count;
+            u8::from(refused.refusal)
+        }
+    }
+}
 
 // Collects the word onto the vector.
 pub fn yav_collect(
@@ -19,8 +37,7 @@ pub fn yav_collect(
         result count.new vector.new work.new }
 {
     let collected = collect(numbers, vector, word, budget, work);
-    *count = collected.count;
-    collected.number
+    hand_out(collected, count)
 }
 
 // The product of the left vector, which it replaces, and the right one, which is only read.
@@ -36,8 +53,7 @@ pub fn yav_product(
         result count.new left.new work.new }
 {
     let multiplied = product(numbers, left, right, budget, work);
-    *count = multiplied.count;
-    multiplied.number
+    hand_out(multiplied, count)
 }
 
 // Replaces the vector by its inverse.
@@ -52,22 +68,21 @@ pub fn yav_inverse(
         result count.new vector.new work.new }
 {
     let inverted = inverse(numbers, vector, budget, work);
-    *count = inverted.count;
-    inverted.number
-}
-
-// A 16-bit number in the type that C is given.
-fn wider(number: u16) -> u32
-    ensures { result ≡ number }
-{
-    number as u32
+    hand_out(inverted, count)
 }
 
 // The depth of a vector.
 pub fn yav_depth(numbers: &[u16], vector: &[u8], found: &mut u32) -> u8
     ensures { HandedDepth (depth_call numbers.now vector.now) result found.new }
 {
-    let answer = depth(numbers, vector);
-    *found = wider(answer.depth);
-    answer.number
+    match depth(numbers, vector) {
+        Ok(first) => {
+            *found = u32::from(first);
+            0
+        }
+        Err(refusal) => {
+            *found = 0;
+            u8::from(refusal)
+        }
+    }
 }

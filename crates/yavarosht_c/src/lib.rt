@@ -1,5 +1,6 @@
 // The C library: each function of the C face under its C name, with its clauses. Nothing is decided here: each export calls the
 // function of yavarosht that has its name. include/yavarosht.h says the same in the words of C.
+// The C interface is why the seven stand twice: a crate is a library for other crates or a static library for C, not both.
 #![tactic(auto)]
 
 ghost use Rattle.std.specs.Prelude.{◌≡◌};

@@ -19,5 +19,5 @@ exchange-requires-clause-le_i c =
 
 pub returns : goal.returns
 returns c =
-    passes-after c.requires.ready c.requires.i_value c.requires.ground c.take-taken.ensures (omega arith) c.exchange.ensures.filled
+    passes-after c.requires.ready c.requires.i_value c.args.texts.ground c.take-taken.ensures (omega arith) c.exchange.ensures.filled
     c.exchange.ensures.vector_after

@@ -1,29 +1,22 @@
--- `slots::take` meets its contract: each kind of slot is put back as it should, and `took` says what that means.
+-- `slots::take` meets its contract: the top slot's first power is lessened on its rest, and `took` says what that means.
 use Rattle.std.proofs.Common.{arith}
-use Rattle.slots.proofs.Reading.{top_of, relation-readable, input-readable, took}
+use Rattle.slots.proofs.Reading.{top_of, top-sound, top-rest, low, took-some, took-none}
 use Rattle.slots.proofs.take.Goals as goal
 
-pub put_back-requires-clause-inside : goal.put_back-requires-clause-inside
-put_back-requires-clause-inside c =
-    let h = relation-readable _ _ (top_of c.requires c.top.ensures c.in-Relation.is) in (h.inside, h.high)
+pub rest-requires : goal.rest-requires
+rest-requires c = top-sound _ _ (top_of c.requires c.top-slot.ensures)
 
-pub put_back-requires-clause-depth_in_bounds : goal.put_back-requires-clause-depth_in_bounds
-put_back-requires-clause-depth_in_bounds c =
-    let h = relation-readable _ _ (top_of c.requires c.top.ensures c.in-Relation.is) in (omega arith, omega arith)
+pub push-requires : goal.push-requires
+push-requires c = (omega arith, top-rest _ _ (top_of c.requires c.top-slot.ensures) (cc))
 
-pub put_back-requires-in-Input-clause-inside : goal.put_back-requires-in-Input-clause-inside
-put_back-requires-in-Input-clause-inside c =
-    let h = input-readable _ _ (top_of c.requires c.top.ensures c.in-Input.is) in (h.inside, h.high)
+pub lessen-requires : goal.lessen-requires
+lessen-requires c = (omega arith, rw c.front.ensures (low _ _ (top_of c.requires c.top-slot.ensures)))
 
-pub put_back-requires-in-Input-clause-depth_in_bounds : goal.put_back-requires-in-Input-clause-depth_in_bounds
-put_back-requires-in-Input-clause-depth_in_bounds c =
-    let h = input-readable _ _ (top_of c.requires c.top.ensures c.in-Input.is) in (omega arith, omega arith)
+pub lessen-requires-in-None : goal.lessen-requires-in-None
+lessen-requires-in-None c = (omega arith, rw c.front.ensures (low _ _ (top_of c.requires c.top-slot.ensures)))
 
-pub returns-in-Power : goal.returns-in-Power
-returns-in-Power c = took _ _ (top_of c.requires c.top.ensures c.in-Power.is) c.lessen.ensures
+pub returns-in-Some : goal.returns-in-Some
+returns-in-Some c = took-some _ _ (top_of c.requires c.top-slot.ensures) c.front.ensures (cc) c.push.ensures c.lessen.ensures
 
-pub returns-in-Relation : goal.returns-in-Relation
-returns-in-Relation c = took _ _ (top_of c.requires c.top.ensures c.in-Relation.is) c.put_back.ensures
-
-pub returns-in-Input : goal.returns-in-Input
-returns-in-Input c = took _ _ (top_of c.requires c.top.ensures c.in-Input.is) c.put_back-in-Input.ensures
+pub returns-in-None : goal.returns-in-None
+returns-in-None c = took-none _ _ (top_of c.requires c.top-slot.ensures) c.front.ensures (cc) c.lessen-in-None.ensures

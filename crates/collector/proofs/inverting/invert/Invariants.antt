@@ -1,11 +1,7 @@
 -- `invert` meets its contract. The invariant (`Sofar`, proofs/Inverses): the entries before at are found, the vector that is worked off has
 -- 0 there, and what is left to do is the definition's from at on.
-use Rattle.std.proofs.Common.{◌-◌, length}
 use Rattle.collector.proofs.Inverses.{Sofar}
 use Rattle.collector.proofs.inverting.invert.Given as goal
 
 abbrev pub invariant-loop-at : goal.invariant-loop-at
-invariant-loop-at l = Sofar l.numbers l.budget l.initial.work l.initial.own l.own l.found l.work l.count l.at
-
-abbrev pub decreases-loop-at : goal.decreases-loop-at
-decreases-loop-at l = length l.initial.found - l.at
+invariant-loop-at l = Sofar l.group.numbers.now l.budget l.initial.work l.initial.own l.own l.found l.work l.count l.at

@@ -7,8 +7,11 @@ use Rattle.collector.proofs.Turning.{Underway}
 use Rattle.collector.proofs.running.run.Given as goal
 
 abbrev pub invariant-loop-slots : goal.invariant-loop-slots
-invariant-loop-slots l = Underway l.numbers l.bodies l.initial.vector l.word l.budget l.count l.initial.work l.depth l.vector l.work l.spent l.slots
+invariant-loop-slots l =
+    let g = l.texts.group in
+    Underway g.numbers.now g.bodies.now l.initial.vector l.texts.word.now l.budget l.count l.initial.work l.depth l.vector l.work l.spent l.slots
 
 abbrev pub decreases-loop-slots : goal.decreases-loop-slots
 decreases-loop-slots l =
-    length (letters (pieces l.bodies l.word l.work l.slots)) + rank_of l.numbers * prime_of l.numbers * (l.budget - l.spent)
+    let nums = l.texts.group.numbers.now in
+    length (letters (pieces l.texts.group.bodies.now l.texts.word.now l.work l.slots)) + rank_of nums * prime_of nums * (l.budget - l.spent)

@@ -12,6 +12,3 @@ invariant-loop-at l =
       kept : length l.work ≡ length l.initial.work;
       held : Held (power_start (l.at + 1) (drop l.at l.right)) l.work l.depth;
     }
-
-abbrev pub decreases-loop-at : goal.decreases-loop-at
-decreases-loop-at l = l.at

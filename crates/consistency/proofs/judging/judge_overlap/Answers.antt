@@ -1,25 +1,37 @@
--- `judge_overlap` meets its contract: the left side is collected, then the right one, and the two vectors are compared. A law of proofs/Sayings for
--- each way out but the first, that the left side is refused.
-use Rattle.std.proofs.Common.{sym, ◌∙◌}
-use Rattle.consistency.proofs.Sayings.{says-right, says-agree, says-differ}
+-- `judge_overlap` meets its contract: a law of proofs.Comparing for each way out.
+use Rattle.std.proofs.Common.{◌/◌, length, sym, ◌∙◌, rules}
+use Rattle.layout.specs.Header.{rank_of}
+use Rattle.layout.proofs.Accepted.{accepted}
+use Rattle.consistency.specs.Sides.{left_pieces, right_pieces}
+use Rattle.consistency.specs.Check.{overlap_of, side_outcome}
+use Rattle.consistency.proofs.Comparing.{stopped, alike, apart}
 use Rattle.consistency.proofs.judging.judge_overlap.Goals as goal
 
-pub returns-then-second-ne0-clause-said : goal.returns-then-second-ne0-clause-said
-returns-then-second-ne0-clause-said c =
-    says-right c.args.numbers.now c.requires.ground.accepts c.args.budget c.args.work.now c.args.o c.requires.among
-    c.left_of.result c.left_of.ensures.result_value c.collect_side-first.ensures c.if-first-ne0.false
-    c.right_of.result c.right_of.ensures.result_value c.collect_side-second.ensures c.if-second-ne0.true
+pub returns-in-Err : goal.returns-in-Err
+returns-in-Err c =
+    let nums = c.args.group.numbers.now in
+    let room = length c.args.work.now / 3 in
+    c.without_vectors.ensures
+    ∙ stopped (rank_of nums) (accepted nums c.args.group.accepts).measured.most c.args.o
+    (side_outcome nums c.args.budget room (left_pieces nums (overlap_of c.args.o)))
+    (side_outcome nums c.args.budget room (right_pieces nums (overlap_of c.args.o)))
+    c.in-Err.refusal (sym c.collect_sides.ensures ∙ c.in-Err.is)
 
-pub returns-then-same-clause-said : goal.returns-then-same-clause-said
-returns-then-same-clause-said c =
-    says-agree c.args.numbers.now c.requires.ground.accepts c.args.budget c.args.work.now c.args.o c.requires.among
-    c.left_of.result c.left_of.ensures.result_value c.collect_side-first.ensures c.if-first-ne0.false
-    c.right_of.result c.right_of.ensures.result_value c.collect_side-second.ensures c.if-second-ne0.false
-    (sym c.same.ensures ∙ c.if-same.true)
+pub returns-then-eq : goal.returns-then-eq
+returns-then-eq c =
+    let nums = c.args.group.numbers.now in
+    let room = length c.args.work.now / 3 in
+    (search rules)
+    ∙ alike (rank_of nums) (accepted nums c.args.group.accepts).measured.most c.args.o c.in-Ok.sides
+    (side_outcome nums c.args.budget room (left_pieces nums (overlap_of c.args.o)))
+    (side_outcome nums c.args.budget room (right_pieces nums (overlap_of c.args.o)))
+    (sym c.collect_sides.ensures ∙ c.in-Ok.is) (sym c.if-eq.true ∙ c.eq.ensures)
 
-pub returns-clause-said : goal.returns-clause-said
-returns-clause-said c =
-    says-differ c.args.numbers.now c.requires.ground.accepts c.args.budget c.args.work.now c.args.o c.requires.among
-    c.left_of.result c.left_of.ensures.result_value c.collect_side-first.ensures c.if-first-ne0.false
-    c.right_of.result c.right_of.ensures.result_value c.collect_side-second.ensures c.if-second-ne0.false
-    (sym c.same.ensures ∙ c.if-same.false)
+pub returns : goal.returns
+returns c =
+    let nums = c.args.group.numbers.now in
+    let room = length c.args.work.now / 3 in
+    apart (rank_of nums) (accepted nums c.args.group.accepts).measured.most c.args.o c.in-Ok.sides
+    (side_outcome nums c.args.budget room (left_pieces nums (overlap_of c.args.o)))
+    (side_outcome nums c.args.budget room (right_pieces nums (overlap_of c.args.o)))
+    (sym c.collect_sides.ensures ∙ c.in-Ok.is) (sym c.if-eq.false ∙ c.eq.ensures)

@@ -1,44 +1,69 @@
--- `search_pairs` meets its contract: a row is opened (`open_row`); an overlap that settles nothing leaves the rest to decide (`seek-next`), and one that
--- settles the verdict settles it for all of them (`seek_found`; proofs/Seeking).
-use Rattle.std.proofs.Common.{[], ◌∷◌, ◌+◌, sym, ◌∙◌, arith}
+-- `search_pairs` meets its contract: a row is opened (`open_row`) and left behind its last pair (`row-over`); an overlap that settles nothing leaves the rest
+-- to decide (`seek-next`), and one that settles the verdict settles it for all of them (`seek-found`; proofs/Seeking).
+use Rattle.std.proofs.Common.{[], ◌∷◌, ◌+◌, ◌∙◌, rules, arith}
 use Rattle.layout.specs.Header.{rank_of}
 use Rattle.consistency.specs.Check.{pair_of}
-use Rattle.consistency.proofs.Seeking.{from, rows, open_row, open-item, seek-as, seek-next, seek_found}
+use Rattle.consistency.proofs.Seeking.{from, rows, from_all, open_row, open-item, row-over, seek-start, seek-as, seek-next, seek-found}
 use Rattle.consistency.proofs.searching.search_pairs.Goals as goal
+use Rattle.consistency.proofs.searching.search_pairs.Goals.{else-loop-j-test, then-loop-j-test+else-ne+else-j-n}
+
+pub search-init : goal.search-init
+search-init c =
+    let n = rank_of c.args.group.numbers.now in
+    record {
+      seeks = seek-start c.args.group.accepts c.without_vectors-checked.ensures (from_all n (rows n (λ x y. pair_of c.args.family x y ∷ [])));
+      some = omega arith;
+    }
 
 pub loop-j-init : goal.loop-j-init
 loop-j-init c =
-    let n = rank_of c.args.numbers.now in
+    let n = rank_of c.args.group.numbers.now in
     record {
       seeks = seek-as (open_row n (λ x y. pair_of c.args.family x y ∷ []) c.search.i (omega arith)) c.search.invariant.seeks;
       some = omega arith;
       above = omega arith;
-      inside = omega arith;
-      most = omega arith;
     }
 
 pub loop-j-preserved : goal.loop-j-preserved
 loop-j-preserved c =
-    let n = rank_of c.args.numbers.now in
+    let n = rank_of c.args.group.numbers.now in
     let f = c.args.family in
     let i = c.search.i in
-    let v = c.verdict_at-verdict in
     record {
       seeks =
           seek-next
           (seek-as (open-item n (λ y. pair_of f i y) c.loop-j.j (from n (i + 1) (rows n (λ x y. pair_of f x y ∷ []))) (omega arith)) c.loop-j.invariant.seeks)
-          v.ensures.found (sym c.settles.ensures ∙ c.if-settles.false) v.ensures.work_len_unchanged v.auto.left v.auto.right;
+          (c.loop-j.auto.work ∙ c.search.auto.work) c.judge_overlap-checked.ensures (search rules);
       some = omega arith;
       above = omega arith;
-      inside = omega arith;
-      most = omega arith;
     }
 
-pub returns-then-settles-clause-found : goal.returns-then-settles-clause-found
-returns-then-settles-clause-found c =
-    let n = rank_of c.args.numbers.now in
+pub search-preserved : goal.search-preserved
+search-preserved c =
+    let n = rank_of c.args.group.numbers.now in
     let f = c.args.family in
     let i = c.search.i in
-    seek_found
+    let j = c.loop-j.j in
+    let after = from n (i + 1) (rows n (λ x y. pair_of f x y ∷ [])) in
+    record {
+      seeks =
+          elim c.loop-j-test.branch [
+            | else-loop-j-test w ↦
+                rw w.checked-is (seek-as (row-over n (λ y. pair_of f i y ∷ []) j after (omega arith)) c.loop-j.invariant.seeks)
+            | then-loop-j-test+else-ne+else-j-n w ↦
+                rw w.checked-is
+                (seek-as (row-over n (λ y. pair_of f i y ∷ []) (j + 1) after (omega arith))
+                (seek-next (seek-as (open-item n (λ y. pair_of f i y) j after (omega arith)) c.loop-j.invariant.seeks) (c.loop-j.auto.work ∙ c.search.auto.work)
+                w.judge_overlap-checked.ensures (search rules)))
+          ];
+      some = omega arith;
+    }
+
+pub returns-then-ne : goal.returns-then-ne
+returns-then-ne c =
+    let n = rank_of c.args.group.numbers.now in
+    let f = c.args.family in
+    let i = c.search.i in
+    seek-found
     (seek-as (open-item n (λ y. pair_of f i y) c.loop-j.j (from n (i + 1) (rows n (λ x y. pair_of f x y ∷ []))) (omega arith)) c.loop-j.invariant.seeks)
-    c.verdict_at-verdict.ensures.found (sym c.settles.ensures ∙ c.if-settles.true)
+    (c.loop-j.auto.work ∙ c.search.auto.work) c.judge_overlap-checked.ensures (search rules)

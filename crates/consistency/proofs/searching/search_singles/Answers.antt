@@ -1,20 +1,40 @@
--- `search_singles` meets its contract: an overlap that settles nothing leaves the rest to decide (`single_next`), and one that settles the verdict settles
--- it for all of them (`single_found`; proofs/Seeking).
-use Rattle.std.proofs.Common.{sym, ◌∙◌, arith}
-use Rattle.consistency.proofs.Seeking.{single_found, single_next}
+-- `search_singles` meets its contract: an overlap that settles nothing leaves the rest to decide (`seek-next`), and one that settles the verdict settles
+-- it for all of them (`seek-found`; proofs/Seeking).
+use Rattle.std.proofs.Common.{[], ◌∷◌, ◌+◌, rules, arith}
+use Rattle.theory.specs.Overlaps.{single}
+use Rattle.layout.specs.Header.{rank_of}
+use Rattle.consistency.proofs.Seeking.{from_all, from_step, from_end, seek-start, seek-as, seek-end, seek-found, seek-next}
 use Rattle.consistency.proofs.searching.search_singles.Goals as goal
+
+pub search-init : goal.search-init
+search-init c =
+    record {
+      seeks =
+          seek-start c.args.group.accepts c.without_vectors-checked.ensures (from_all (rank_of c.args.group.numbers.now) (λ x. single x ∷ []));
+      some = omega arith;
+    }
 
 pub search-preserved : goal.search-preserved
 search-preserved c =
-    let v = c.verdict_at-verdict in
+    let n = rank_of c.args.group.numbers.now in
     record {
       seeks =
-          single_next c.search.invariant.seeks (omega arith) (search v.ensures.found) (sym c.settles.ensures ∙ c.if-settles.false)
-          v.ensures.work_len_unchanged v.auto.left v.auto.right;
+          seek-next (seek-as (from_step n (λ x. single x ∷ []) c.search.i (omega arith)) c.search.invariant.seeks) c.search.auto.work
+          c.judge_overlap-checked.ensures (search rules);
       some = omega arith;
-      most = omega arith;
     }
 
-pub returns-then-settles-clause-found : goal.returns-then-settles-clause-found
-returns-then-settles-clause-found c =
-    single_found c.search.invariant.seeks (omega arith) (search c.verdict_at-verdict.ensures.found) (sym c.settles.ensures ∙ c.if-settles.true)
+pub returns-then-ne : goal.returns-then-ne
+returns-then-ne c =
+    let n = rank_of c.args.group.numbers.now in
+    seek-found (seek-as (from_step n (λ x. single x ∷ []) c.search.i (omega arith)) c.search.invariant.seeks) c.search.auto.work
+    c.judge_overlap-checked.ensures (search rules)
+
+pub returns-else-ne : goal.returns-else-ne
+returns-else-ne c =
+    let n = rank_of c.args.group.numbers.now in
+    let i = c.search.i in
+    seek-end
+    (seek-as (from_end n (λ x. single x ∷ []) (i + 1) (omega arith))
+    (seek-next (seek-as (from_step n (λ x. single x ∷ []) i (omega arith)) c.search.invariant.seeks) c.search.auto.work
+    c.judge_overlap-checked.ensures (search rules)))

@@ -1,6 +1,6 @@
--- `put_part` meets its contract: a power with the exponent 0 is none, and any other is put as one slot (proofs/Laying).
+-- `put_part` meets its contract: no power is put where there is none, and any other as one slot (proofs/Laying).
 use Rattle.consistency.proofs.Laying.{part-some}
 use Rattle.consistency.proofs.sides.put_part.Goals as goal
 
 pub returns : goal.returns
-returns c = part-some c.args.part c.if-e-eq0.false c.put.ensures
+returns c = rw c.in-Some.is (part-some c.in-Some.power c.put.ensures)

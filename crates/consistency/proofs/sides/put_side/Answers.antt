@@ -7,9 +7,9 @@ use Rattle.consistency.proofs.sides.put_side.Goals as goal
 pub returns-clause-laid : goal.returns-clause-laid
 returns-clause-laid c =
     let a = c.args in
-    let n = rank_of a.numbers.now in
-    let bodies = drop (bodies_at a.numbers.now) a.numbers.now in
-    let right = c.requires.side_right.0 in
+    let n = rank_of a.group.numbers.now in
+    let bodies = drop (bodies_at a.group.numbers.now) a.group.numbers.now in
+    let right = c.requires in
     c.put_part.ensures.lays n bodies right.first _
     (c.put_part-second.ensures.lays n bodies right.second _
     (c.put_part-third.ensures.lays n bodies right.third _

@@ -1,10 +1,7 @@
 -- `prime_to_251` is `prime_to_251`. The loop's invariant: no number from 2 to below d divides p.
-use Rattle.std.proofs.Common.{◌-◌, ◌≡◌, ◌≤◌, true}
+use Rattle.std.proofs.Common.{◌-◌, ◌≡◌, true}
 use Rattle.layout.specs.Prime.{undivided}
 use Rattle.layout.proofs.prime.prime_to_251.Given as goal
 
 abbrev pub invariant-loop-d : goal.invariant-loop-d
-invariant-loop-d l = record { none : undivided l.p.0 (l.d - 2) ≡ true; least : 2 ≤ l.d; most : l.d ≤ 16 }
-
-abbrev pub decreases-loop-d : goal.decreases-loop-d
-decreases-loop-d l = 17 - l.d
+invariant-loop-d l = undivided l.p.0 (l.d - 2) ≡ true

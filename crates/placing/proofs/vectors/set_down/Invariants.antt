@@ -1,13 +1,10 @@
--- `set_down` meets its contract. The invariant: the pairs before at are set down, and those from at on are left to settle.
-use Rattle.std.proofs.Common.{◌≡◌, ◌-◌, ◌≤◌, length, drop}
+-- `set_down` meets its contract. The invariant: the pairs before are set down, and those that are left can be.
+use Rattle.std.proofs.Common.{◌≡◌, length}
 use Rattle.layout.specs.Relations.{settled}
 use Rattle.placing.specs.Settable.{Settable}
 use Rattle.placing.proofs.vectors.set_down.Given as goal
 
-abbrev pub invariant-loop-at : goal.invariant-loop-at
-invariant-loop-at l =
-    (l.at ≤ length l.stretch) × Settable (length l.initial.vector) (drop l.at l.stretch)
-    × (settled l.vector (drop l.at l.stretch) ≡ settled l.initial.vector l.stretch)
-
-abbrev pub decreases-loop-at : goal.decreases-loop-at
-decreases-loop-at l = length l.stretch - l.at
+abbrev pub invariant-loop-pair : goal.invariant-loop-pair
+invariant-loop-pair l =
+    (l.pair-iterator.size ≡ 2) × Settable (length l.initial.vector) l.pair-iterator.rest.now
+    × (settled l.vector l.pair-iterator.rest.now ≡ settled l.initial.vector l.stretch)

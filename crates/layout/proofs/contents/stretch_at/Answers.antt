@@ -1,7 +1,0 @@
--- `stretch_at` gives the very part that the entry names, which lies within the numbers.
-use Rattle.std.proofs.Common.{arith}
-use Rattle.layout.proofs.Stretches.{stretch-fits}
-use Rattle.layout.proofs.contents.stretch_at.Goals as goal
-
-pub slice_bounds-result-end : goal.slice_bounds-result-end
-slice_bounds-result-end c = omega (arith, stretch-fits c.args.numbers.now c.args.entry c.requires.measured c.requires.bound)

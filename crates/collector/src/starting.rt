@@ -7,14 +7,6 @@ ghost use Rattle.collector.specs.Starting.{word_start, power_start, Put, Held};
 use layout::{Exponent, Generator};
 use slots::{Slot, push, room};
 
-// The generator of the entry at the index `at`. There are at most 40, so the cast is exact: `try_from` would have a branch that nothing takes.
-pub(crate) fn generator_at(at: usize) -> Generator
-    requires { at < 40 }
-    ensures { result.0 ≡ at + 1 }
-{
-    Generator((at + 1) as u16)
-}
-
 // Puts a slot on `depth` slots, if there is room for it.
 pub fn put(work: &mut [u16], depth: usize, slot: Slot)
     requires { (depth ≤ 1000) × Sound slot }
@@ -53,7 +45,7 @@ pub fn start_powers(right: &[u8], work: &mut [u16]) -> usize
             put(
                 work,
                 depth,
-                Slot::Power(generator_at(at), Exponent(u16::from(e))),
+                Slot::Power(Generator::at(at), Exponent(u16::from(e))),
             );
             depth += 1;
         }

@@ -16,6 +16,8 @@ pub mod refusal; // why a call is refused
 pub mod spanned; // numbers whose contents and length were judged
 pub mod words; // fetching a relation's word
 
+ghost use Rattle.std.specs.Prelude.{◌≡◌, ◌+◌, ◌<◌};
+
 pub use contents::{entry_of, row_of};
 pub use group::Group;
 pub use header::view_of;
@@ -26,6 +28,16 @@ pub use words::{names_relation, word_of};
 // The number of a generator, 1 to n.
 #[derive(Clone, Copy, PartialEq, Eq, PartialOrd, Ord, Debug)]
 pub struct Generator(pub u16);
+
+impl Generator {
+    // The generator of the entry at an index. There are at most 40, so the cast is exact: `try_from` would have a branch that nothing takes.
+    pub fn at(index: usize) -> Generator
+        requires { index < 40 }
+        ensures { result.0 ≡ index + 1 }
+    {
+        Generator((index + 1) as u16)
+    }
+}
 
 // An exponent of a generator.
 #[derive(Clone, Copy, PartialEq, Eq, PartialOrd, Ord, Debug)]

@@ -8,7 +8,7 @@ use Rattle.collector.proofs.calls.first_entry.Goals as goal
 pub returns-in-Some : goal.returns-in-Some
 returns-in-Some c =
     let v = c.args.vector.now in
-    c.generator_at.ensures
+    c.at.ensures
     ∙ first-is c.args.none v (Some c.in-Some.at)
     (position_from_yields_List some_entry _ _ _ c.in-Some.ensures.ran (YieldsList-from_slice v cc) (λ x b q k. search (rules, tests)))
 

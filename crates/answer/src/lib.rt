@@ -20,7 +20,7 @@ pub fn bytes_right(bytes: &[u8]) -> bool
     bytes.len() % 2 == 0 && bytes.len() <= MOST
 }
 
-// p and n of numbers that have a header, and 0 otherwise.
+// p and n of numbers that have a header, and 0 otherwise: two numbers and no Option, since the definitions `prime_in` and `rank_in` say so.
 fn named_in(numbers: &[u16]) -> (Exponent, Generator)
     ensures { (result.0.0 ≡ prime_in numbers.now) × (result.1.0 ≡ rank_in numbers.now) }
 {

@@ -1,6 +1,6 @@
 -- The first entry that isn't 0, by its place.
 --
--- Main result: `first-is`.
+-- Main results: `first-is`, `depth-told`.
 use mathlib.Core.Path.{◌≡◌, refl, sym, ap, ◌∙◌}
 use mathlib.Core.Bool.{Bool, true, false, cond, not}
 use mathlib.Core.List.{[], ◌∷◌}
@@ -11,7 +11,7 @@ use native.Mathlib.Numerals.{add-one}
 use lib.ListN.{length, get_or, drop}
 use lib.Seq.{drop-cons}
 use lib.Dec.{ltb, eqb}
-use Rattle.std.specs.Prelude.{Option, Some, None}
+use Rattle.std.specs.Prelude.{Option, Some, None, MatchOption}
 use Rattle.std.specs.List.{position_or_len}
 use Rattle.theory.specs.Presentation.{Vector}
 use Rattle.collector.specs.Calls.{first_entry}
@@ -23,6 +23,10 @@ some_entry a = not (eqb a 0)
 abbrev pub depth_at : ℕ → Option ℕ → ℕ
 depth_at none (Some at) = at + 1
 depth_at none None = none
+
+pub depth-told : (none d : ℕ) (r : Option ℕ) (Q : ℕ → Type 0) → MatchOption r (d ≡ none) Q → ((at : ℕ) → Q at → d ≡ at + 1) → d ≡ depth_at none r
+depth-told none d (Some at) Q h f = f at h
+depth-told none d None Q h f = h
 
 abbrev place : Vector → ℕ
 place v = position_or_len some_entry v

@@ -20,7 +20,7 @@ pub fn judge_vector<'a>(numbers: &'a [u16], vector: &[u8]) -> Result<Group<'a>, 
     ensures same { IfOk result (λ group. group.numbers ≡ numbers.entry) }
 {
     let group = accept(numbers)?;
-    if !vector_right(group, vector) {
+    if !vector_right(group.numbers, group.view, vector) {
         return Err(Refusal::Vector);
     }
     Ok(group)
@@ -70,7 +70,7 @@ pub fn product(
         left.new work.new }
 {
     let group = judge_vector(numbers, left)?;
-    if !vector_right(group, right) {
+    if !vector_right(group.numbers, group.view, right) {
         return Err(Refusal::Vector.into());
     }
     let depth = start_powers(right, work);
@@ -98,10 +98,10 @@ fn first_entry(vector: &[u8], none: u16) -> u16
     requires { length vector.now ≤ 40 }
     ensures { result ≡ first_entry none 1 vector.now }
 {
-    match vector.iter().position(|entry| *entry != 0) {
-        Some(at) => Generator::at(at).0,
-        None => none,
-    }
+    vector
+        .iter()
+        .position(|entry| *entry != 0)
+        .map_or(none, |at| Generator::at(at).0)
 }
 
 // The depth of a vector: the number of its first entry that isn't 0.

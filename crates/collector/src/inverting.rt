@@ -1,4 +1,5 @@
-// The inverse, generator by generator. Inner functions of this crate.
+// The inverse, generator by generator. Inner functions of this crate. That the vector is `Normal` stands in three contracts: it is lent
+// `&mut` from call to call, and a value that holds it could not carry the fact while it is written.
 ghost use Rattle.std.specs.Prelude.{◌≡◌, [], ◌∷◌, ◌+◌, ◌≤◌, ◌<◌, length};
 ghost use Rattle.theory.specs.Presentation.{Normal};
 ghost use Rattle.theory.specs.Placing.{complement};
@@ -83,8 +84,8 @@ pub fn invert(
         work.old found.new work.new result }
 {
     let mut count: u32 = 0;
-    for at in 0..found.len() {
-        found[at] = entry_of_inverse(group.view, own[at]);
+    for (at, entry) in found.iter_mut().enumerate() {
+        *entry = entry_of_inverse(group.view, own[at]);
         count = clear_entry(group, own, at, budget, count, work)?;
     }
     Ok(count)

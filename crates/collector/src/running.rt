@@ -7,8 +7,8 @@ use placing::{Texts, place};
 use slots::room;
 
 // Runs from the vector, the `depth` slots of the workspace and the count on. The counter of replacements runs beside the collector and is
-// compared at each placing. Budget and count are handed apart: the budget stays, and the count comes back in the answer, so that a value of
-// the two would be built anew for each run.
+// compared at each placing. Budget and count are handed apart: the run's contract speaks of both, the budget stays, and the count comes back
+// in the answer.
 pub fn run(
     texts: Texts,
     vector: &mut [u8],

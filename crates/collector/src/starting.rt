@@ -26,7 +26,7 @@ pub fn start_word(word: &[u16], work: &mut [u16]) -> usize
     if word.is_empty() {
         return 0;
     }
-    // At most 4,096, so the cast is exact.
+    // At most 4,096, so the cast is exact: `try_from` would have a branch that nothing takes.
     let pairs = (word.len() / 2) as u16;
     put(work, 0, Slot::Input { start: 0, pairs });
     1
@@ -39,6 +39,7 @@ pub fn start_powers(right: &[u8], work: &mut [u16]) -> usize
     ensures held { Held (power_start 1 right.now) work.new result }
 {
     let mut depth: usize = 0;
+    // By indices: what is left of an enumeration that runs from its end is the iterator's, and the invariant speaks of places.
     for at in (0..right.len()).rev() {
         let e = right[at];
         if e != 0 {

@@ -1,7 +1,7 @@
--- Collecting a side: which numbers refuse it, and what the code answers of it.
+-- Collecting a side: which numbers refuse it, and what the code's answer says of it.
 --
--- Main results: `Late`, `late-side`; `collected-done`, `collected-refused`; `side-sets`, `side-tells`; `padded-zeros`.
-use mathlib.Core.Path.{◌≡◌, refl, sym, ap, ◌∙◌, subst, subst₂}
+-- Main results: `Late`, `late-side`; `outcome-done`, `outcome-refused`; `front-zeros`, `rest-zeros`; `side-sets`, `side-answers`; `padded-zeros`.
+use mathlib.Core.Path.{◌≡◌, refl, sym, ap, ap₂, ◌∙◌, subst, subst₂}
 use mathlib.Core.List.{List, [], ◌∷◌, ◌++◌}
 use mathlib.Core.Bool.{Bool, true, false}
 use Prim.Native.Nat.{ℕ, zero, suc, ◌+◌, ◌-◌, ◌/◌, ◌≤◌}
@@ -13,24 +13,21 @@ use Rattle.std.proofs.lemmas.List.{take-replicate, drop-replicate}
 use Rattle.theory.specs.Presentation.{Vector, Normal, identity}
 use Rattle.theory.specs.Placing.{cost}
 use Rattle.layout.specs.declared.group.Group.{Group}
-use Rattle.layout.specs.declared.refusal.Refusal.{Refusal}
 use Rattle.layout.specs.Header.{rank_of, bodies_at}
-use Rattle.layout.specs.Refusals.{refusal_number, refusal_of}
+use Rattle.layout.specs.Refusals.{refusal_number}
 use Rattle.layout.specs.Relations.{presentation}
-use Rattle.layout.proofs.Accepted.{accepted}
-use Rattle.layout.proofs.Refusals.{refusal-of-number, number-some}
+use Rattle.layout.proofs.Refusals.{number-some}
 use Rattle.slots.specs.Pieces.{Piece}
 use Rattle.placing.specs.declared.texts.Texts.{Texts}
 use Rattle.placing.specs.Ready.{Ground}
 use Rattle.placing.specs.Step.{placing_of, slots_after, Step, refuse, lead, step}
 use Rattle.collector.specs.declared.Refused.{Refused}
-use Rattle.collector.specs.Given.{number_in}
+use Rattle.collector.specs.Given.{number_in, count_in}
 use Rattle.collector.specs.Run.{Outcome, done, refused, run, enough, begun}
-use Rattle.collector.specs.Running.{Tells, Sets, Settled, Answers}
+use Rattle.collector.specs.Running.{Sets, Settled, Answers}
 use Rattle.collector.proofs.Finished.{tells-done, tells-refused}
 use Rattle.collector.proofs.Holding.{sets-held, told}
 use Rattle.consistency.specs.Check.{side_outcome, padded}
-use Rattle.consistency.specs.Collected.{collected}
 use Rattle.consistency.specs.Laying.{Laid}
 use Rattle.consistency.proofs.Spelling.{start-normal}
 
@@ -89,16 +86,24 @@ late-some : (o : Outcome) → LateOutcome o → (k d : ℕ) → o ≡ refused k 
 late-some (done r c) l k d e z = cc
 late-some (refused q c) l k d e z = let s : q ≡ k = cc in absurd (omega (arith, l.low))
 
-module _ (n : ℕ) (o : Outcome) (late : LateOutcome o) (answer : Result ℕ Refused) (v : Vector) (t : Tells o answer v) where
-  pub collected-done : (count : ℕ) → answer ≡ Ok count → ◌≡◌ {A = Result Vector Refusal} (Ok (padded n v)) (collected n o)
-  collected-done count e = sym (ap (collected n) (tells-done o answer v (late-some o late) t (ap number_in e)))
+-- What the answer of a side says of its outcome, where the workspace is as long as at first.
+module _ (nums : List ℕ) (budget size : ℕ) {k : ℕ} (long : k ≡ size) {ps qs : List Piece} (same : ps ≡ qs) {ws : List ℕ} {v : Vector} {ws' : List ℕ}
+    {answer : Result ℕ Refused} (a : Answers (side_outcome nums budget (k / 3) ps) ws v ws' answer) where
+  moved : side_outcome nums budget (size / 3) qs ≡ side_outcome nums budget (k / 3) ps
+  moved = sym (ap₂ (λ (m : ℕ) (x : List Piece). side_outcome nums budget (m / 3) x) long same)
 
-  pub collected-refused : (why : Refused) → answer ≡ Err why → ◌≡◌ {A = Result Vector Refusal} (Err why.refusal) (collected n o)
-  collected-refused why e =
+  pub outcome-done : (count : ℕ) → answer ≡ Ok count → side_outcome nums budget (size / 3) qs ≡ done v (count_in answer)
+  outcome-done count e =
+      moved
+      ∙ tells-done (side_outcome nums budget (k / 3) ps) answer v
+      (late-some (side_outcome nums budget (k / 3) ps) (late-side nums (k / 3) budget ps)) a.tells (ap number_in e)
+
+  pub outcome-refused : (why : Refused) → answer ≡ Err why → side_outcome nums budget (size / 3) qs ≡ refused (refusal_number why.refusal) (count_in answer)
+  outcome-refused why e =
       let named : number_in answer ≡ refusal_number why.refusal = ap number_in e in
-      sym (ap (collected n) (tells-refused o answer v t (λ z. omega (arith, number-some why.refusal)))
-      ∙ ap (λ (k : ℕ). Err (refusal_of k)) named
-      ∙ ap Err (refusal-of-number why.refusal))
+      moved
+      ∙ tells-refused (side_outcome nums budget (k / 3) ps) answer v a.tells (λ z. omega (arith, number-some why.refusal))
+      ∙ ap (λ (x : ℕ). refused x (count_in answer)) named
 
 -- n entries of an array of zeros are the identity, and the others are 0 past it.
 module _ (n k : ℕ) (is : k ≡ n) (few : n ≤ 40) where
@@ -114,17 +119,11 @@ padded-zeros n few =
     ap (λ (x : ℕ). identity x) e ∙ sym (replicate-append-replicate n (40 - n) 0)
 
 -- A side's slots settled from the identity, where no word is read.
-module _ {group : Group} (texts : Texts) (reads : (texts.group ≡ group) × (texts.word.now ≡ [])) {side : List Piece} {ws₁ : List ℕ} {d k : ℕ}
+module _ {group : Group} (texts : Texts) (reads : (texts.group ≡ group) × (texts.word.now ≡ [])) {side : List Piece} {ws₁ : List ℕ} {d : ℕ} {start : Vector}
     (laid : Laid (rank_of group.numbers.now) (drop (bodies_at group.numbers.now) group.numbers.now) side ws₁ d)
-    (long : k ≡ group.view.rank.0) where
+    (from-identity : start ≡ identity (rank_of group.numbers.now)) where
   abbrev nums : List ℕ
   nums = group.numbers.now
-
-  abbrev start : Vector
-  start = take k (identity 40)
-
-  few : rank_of nums ≤ 40
-  few = (accepted nums group.accepts).measured.most
 
   ground : Ground group.numbers.now group.view group.bodies.now []
   ground =
@@ -134,10 +133,7 @@ module _ {group : Group} (texts : Texts) (reads : (texts.group ≡ group) × (te
   here : Laid (rank_of nums) group.bodies.now side ws₁ d
   here = subst (λ (x : List ℕ). Laid (rank_of nums) x side ws₁ d) (sym group.bodies_are) laid
 
-  from-identity : start ≡ identity (rank_of nums)
-  from-identity = front-zeros (rank_of nums) k (long ∙ group.seen.rank) few
-
-  pub side-sets : (budget : ℕ) → d ≤ 1000 → Sets texts.group.numbers.now texts.group.bodies.now (take k (identity 40)) texts.word.now budget 0 ws₁ d
+  pub side-sets : (budget : ℕ) → d ≤ 1000 → Sets texts.group.numbers.now texts.group.bodies.now start texts.word.now budget 0 ws₁ d
   side-sets budget small =
       subst (λ (g : Group). Sets g.numbers.now g.bodies.now start texts.word.now budget 0 ws₁ d) (sym reads.0)
       (subst (λ (w : List ℕ). Sets nums group.bodies.now start w budget 0 ws₁ d) (sym reads.1)
@@ -145,30 +141,13 @@ module _ {group : Group} (texts : Texts) (reads : (texts.group ≡ group) × (te
       (subst (Normal (presentation nums) (rank_of nums) 1) (sym from-identity) (start-normal nums group.accepts)) (omega arith) small))
 
   module _ (budget : ℕ) (ws : List ℕ) {v' : Vector} {ws' : List ℕ} {answer : Result ℕ Refused} (kept : length ws₁ ≡ length ws)
-      (s : Settled texts.group.numbers.now texts.group.bodies.now (take k (identity 40)) texts.word.now budget 0 ws₁ d v' ws' answer) where
+      (s : Settled texts.group.numbers.now texts.group.bodies.now start texts.word.now budget 0 ws₁ d v' ws' answer) where
     settled : Settled nums group.bodies.now start [] budget 0 ws₁ d v' ws' answer
     settled =
         subst (λ (w : List ℕ). Settled nums group.bodies.now start w budget 0 ws₁ d v' ws' answer) reads.1
         (subst (λ (g : Group). Settled g.numbers.now g.bodies.now start texts.word.now budget 0 ws₁ d v' ws' answer) reads.0 s)
 
-    abbrev out : Outcome
-    out = side_outcome nums budget (length ws / 3) side
-
-    answers : Answers out ws v' ws' answer
-    answers =
+    pub side-answers : Answers (side_outcome group.numbers.now budget (length ws / 3) side) ws v' ws' answer
+    side-answers =
         subst₂ (λ (x : Vector) (ps : List Piece). Answers (begun nums budget (length ws / 3) x ps 0) ws v' ws' answer) from-identity here.means
         (told ground here.held kept settled)
-
-    late : LateOutcome out
-    late = late-side nums (length ws / 3) budget side
-
-    pub side-done : (count : ℕ) → answer ≡ Ok count
-        → ◌≡◌ {A = Result Vector Refusal} (Ok (v' ++ drop k (identity 40)))
-        (collected (rank_of group.numbers.now) (side_outcome group.numbers.now budget (length ws / 3) side))
-    side-done count e =
-        ap Ok (rest-zeros (rank_of nums) k (long ∙ group.seen.rank) few v') ∙ collected-done (rank_of nums) out late answer v' answers.tells count e
-
-    pub side-refused : (why : Refused) → answer ≡ Err why
-        → ◌≡◌ {A = Result Vector Refusal} (Err why.refusal)
-        (collected (rank_of group.numbers.now) (side_outcome group.numbers.now budget (length ws / 3) side))
-    side-refused why e = collected-refused (rank_of nums) out late answer v' answers.tells why e

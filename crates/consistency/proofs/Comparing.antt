@@ -1,27 +1,26 @@
--- The verdict at one overlap, from the arrays that its sides are collected to.
+-- The answer at one overlap, from the arrays that its sides are collected to.
 --
--- Main results: `named-overlap`; `stopped`, `alike`, `apart`.
+-- Main results: `named-overlap`; `settled-none`, `settled-with`; `stopped`, `alike`, `apart`.
 use mathlib.Core.Path.{◌≡◌, refl, sym, ap, ap₂, ◌∙◌}
 use mathlib.Core.Bool.{Bool, true, false}
 use Prim.Native.Nat.{ℕ, ◌-◌, ◌≤◌}
 use lib.ListN.{replicate}
 use lib.Pointwise.{pointwise}
-use Rattle.std.specs.Prelude.{Ok, Err, nat_eq}
+use Rattle.std.specs.Prelude.{Result, Ok, Err, is_err, nat_eq}
 use Rattle.std.specs.Cmp.Lexicographic.{same_text, other_text}
 use Rattle.std.proofs.lemmas.List.{append_cancel_right}
 use Rattle.theory.specs.Presentation.{Vector, identity}
 use Rattle.layout.specs.declared.refusal.Refusal.{Refusal}
-use Rattle.layout.specs.Refusals.{refusal_of}
-use Rattle.collector.specs.Run.{Outcome, done, refused}
+use Rattle.layout.specs.Refusals.{refusal_number, refusal_of}
+use Rattle.layout.proofs.Refusals.{refusal-of-number}
 use Rattle.consistency.specs.declared.Checked.{Checked}
 use Rattle.consistency.specs.declared.Overlap.{Overlap as Named}
 use Rattle.consistency.specs.declared.Overlap.TheVariants.{Triple, Pair, Single}
 use Rattle.consistency.specs.declared.Family.TheVariants.{Upper, Lower}
 use Rattle.consistency.specs.declared.Verdict.{Verdict}
 use Rattle.consistency.specs.declared.Verdict.TheVariants.{Pass, Differs, Stopped}
-use Rattle.consistency.specs.Check.{overlap_of, named, same, compared, judging, settling, passes, padded, without_vectors, checked_of}
-use Rattle.consistency.specs.Collected.{collected, both}
-use Rattle.consistency.proofs.Deciding.{same-equal, same-itself}
+use Rattle.consistency.specs.Check.{overlap_of, named, Judgement, stop, same, compared, settling, Decision, passes, differs, stops, padded, without_vectors, checked_of, settles}
+use Rattle.consistency.proofs.Deciding.{same-equal, same-itself, settles-none}
 use Rattle.consistency.proofs.Collecting.{padded-zeros}
 
 -- The code's overlap of a code's overlap, by way of the theory.
@@ -35,57 +34,41 @@ named-overlap (Single i) = refl
 pub blank : (n : ℕ) (v : Verdict) → n ≤ 40 → without_vectors v ≡ record { verdict = v; left = padded n (identity n); right = padded n (identity n) }
 blank n v few = ap (λ (x : Vector). record { verdict = v; left = x; right = x }) (padded-zeros n few)
 
-module _ (n : ℕ) (few : n ≤ 40) (o : Named) where
-  stopped-with : (k : ℕ) (why : Refusal) → why ≡ refusal_of k
-      → without_vectors (Stopped why o)
-      ≡ record { verdict = Stopped (refusal_of k) (named (overlap_of o)); left = padded n (identity n); right = padded n (identity n) }
-  stopped-with k why e = ap without_vectors (ap₂ Stopped e (sym (named-overlap o))) ∙ blank n (Stopped (refusal_of k) (named (overlap_of o))) few
+-- What the check says where the search settled nothing, and where it settled the verdict.
+pub settled-none : (n : ℕ) → n ≤ 40 → (d : Decision) (u : Unit {0}) → settles n d ≡ Ok u → without_vectors Pass ≡ checked_of n d
+settled-none n few d u e = blank n Pass few ∙ ap (checked_of n) (sym (settles-none n d (ap is_err e)))
 
+pub settled-with : (n : ℕ) (d : Decision) (c : Checked) → settles n d ≡ Err c → c ≡ checked_of n d
+settled-with n passes c e = cc
+settled-with n (differs o l r) c e = cc
+settled-with n (stops k o) c e = cc
+
+-- What the code answers of the overlap o, whose judgement is j.
+module _ (n : ℕ) (few : n ≤ 40) (o : Named) (j : Judgement) where
   -- A side is refused.
-  pub stopped : (left right : Outcome) (why : Refusal) → both (collected n left) (collected n right) ≡ Err why
-      → without_vectors (Stopped why o) ≡ checked_of n (settling (overlap_of o) (judging left right) passes)
-  stopped (refused k c) right why e = stopped-with k why cc
-  stopped (done l c) (refused k d) why e = stopped-with k why cc
-  stopped (done l c) (done r d) why e = cc
+  pub stopped : (why : Refusal) → j ≡ stop (refusal_number why)
+      → ◌≡◌ {A = Result (Unit {0}) Checked} (Err (without_vectors (Stopped why o))) (settles n (settling (overlap_of o) j passes))
+  stopped why e =
+      ap (λ (v : Verdict). Err (without_vectors v)) (ap₂ Stopped (sym (refusal-of-number why)) (sym (named-overlap o)))
+      ∙ ap Err (blank n (Stopped (refusal_of (refusal_number why)) (named (overlap_of o))) few)
+      ∙ ap (λ (x : Judgement). settles n (settling (overlap_of o) x passes)) (sym e)
 
-  module _ (l r : Vector) where
-    passed-with : same l r ≡ true → without_vectors Pass ≡ checked_of n (settling (overlap_of o) (compared l r) passes)
-    passed-with s = rw (s, compared) (blank n Pass few)
+  -- Both are done, and the arrays a and b hold what they are collected to.
+  module _ (l r : Vector) {a b : Vector} (is : j ≡ compared l r) (left : a ≡ padded n l) (right : b ≡ padded n r) where
+    pub alike : true ≡ pointwise nat_eq a b → ◌≡◌ {A = Result (Unit {0}) Checked} (Ok tt) (settles n (settling (overlap_of o) j passes))
+    alike s =
+        let e : l ≡ r = append_cancel_right l r (replicate (40 - n) 0) (sym left ∙ same_text a b s ∙ right) in
+        let t : same l r ≡ true = ap (same l) (sym e) ∙ same-itself l in
+        rw (is, t, compared) refl
 
-    differs-with : same l r ≡ false
-        → ◌≡◌ {A = Checked} (record { verdict = Differs o; left = padded n l; right = padded n r })
-        (checked_of n (settling (overlap_of o) (compared l r) passes))
-    differs-with s =
-        rw (s, compared) (ap (λ (x : Named). record { verdict = Differs x; left = padded n l; right = padded n r }) (sym (named-overlap o)))
-
-    equal-same : padded n l ≡ padded n r → same l r ≡ true
-    equal-same e = ap (same l) (sym (append_cancel_right l r (replicate (40 - n) 0) e)) ∙ same-itself l
-
-    other-same : (padded n l ≡ padded n r → ⊥) → same l r ≡ false
-    other-same h = go (same l r) refl
+    pub apart : false ≡ pointwise nat_eq a b
+        → ◌≡◌ {A = Result (Unit {0}) Checked} (Err (record { verdict = Differs o; left = a; right = b })) (settles n (settling (overlap_of o) j passes))
+    apart s = go (same l r) refl
       where
-        go : (b : Bool) → same l r ≡ b → same l r ≡ false
-        go true e = absurd (h (ap (padded n) (same-equal l r e)))
-        go false e = e
-
-  -- Both are done.
-  module _ (sides : Vector × Vector) where
-    pub alike : (left right : Outcome) → both (collected n left) (collected n right) ≡ Ok sides → true ≡ pointwise nat_eq sides.0 sides.1
-        → without_vectors Pass ≡ checked_of n (settling (overlap_of o) (judging left right) passes)
-    alike (refused k c) right e s = cc
-    alike (done l c) (refused k d) e s = cc
-    alike (done l c) (done r d) e s =
-        let is : ◌≡◌ {A = Vector × Vector} (padded n l, padded n r) sides = cc in
-        passed-with l r (equal-same l r (ap (λ (x : Vector × Vector). x.0) is ∙ same_text sides.0 sides.1 s ∙ sym (ap (λ (x : Vector × Vector). x.1) is)))
-
-    pub apart : (left right : Outcome) → both (collected n left) (collected n right) ≡ Ok sides → false ≡ pointwise nat_eq sides.0 sides.1
-        → ◌≡◌ {A = Checked} (record { verdict = Differs o; left = sides.0; right = sides.1 })
-        (checked_of n (settling (overlap_of o) (judging left right) passes))
-    apart (refused k c) right e s = cc
-    apart (done l c) (refused k d) e s = cc
-    apart (done l c) (done r d) e s =
-        let is : ◌≡◌ {A = Vector × Vector} (padded n l, padded n r) sides = cc in
-        ap (λ (x : Vector × Vector). record { verdict = Differs o; left = x.0; right = x.1 }) (sym is)
-        ∙ differs-with l r
-        (other-same l r
-        (λ z. other_text sides.0 sides.1 s (sym (ap (λ (x : Vector × Vector). x.0) is) ∙ z ∙ ap (λ (x : Vector × Vector). x.1) is)))
+        go : (t : Bool) → same l r ≡ t
+            → ◌≡◌ {A = Result (Unit {0}) Checked} (Err (record { verdict = Differs o; left = a; right = b })) (settles n (settling (overlap_of o) j passes))
+        go true e = absurd (other_text a b s (left ∙ ap (padded n) (same-equal l r e) ∙ sym right))
+        go false e =
+            rw (is, e, compared)
+            (ap (λ (x : Named). Err (record { verdict = Differs x; left = a; right = b })) (sym (named-overlap o))
+            ∙ ap₂ (λ (x y : Vector). Err (record { verdict = Differs (named (overlap_of o)); left = x; right = y })) left right)

@@ -1,6 +1,6 @@
 -- Which overlap settles the verdict.
 --
--- Main results: `same-equal`, `same-itself`; `agreed`, `differed`; `else-first`, `decided-pass`; `decide-append`, `decide-passes`,
+-- Main results: `same-equal`, `same-itself`; `agreed`, `differed`; `else-first`, `settles-none`, `decided-pass`; `decide-append`, `decide-passes`,
 -- `decide-differs`.
 use mathlib.Core.Path.{◌≡◌, refl, sym, ap, ap₂, ◌∙◌}
 use mathlib.Core.List.Memᴰ
@@ -13,8 +13,9 @@ use borrow.Author.Tests.{eq-eqb, eqb-true}
 use Rattle.theory.specs.Presentation.{Vector}
 use Rattle.theory.specs.Overlaps.{Overlap}
 use Rattle.collector.specs.Run.{Outcome, done, refused}
+use Rattle.std.specs.Prelude.{is_err}
 use Rattle.consistency.specs.declared.Verdict.TheVariants.{Pass}
-use Rattle.consistency.specs.Check.{Judgement, agree, differ, stop, same, compared, judging, judgement, Decision, passes, differs, stops, settling, decide, verdict_of}
+use Rattle.consistency.specs.Check.{Judgement, agree, differ, stop, same, compared, judging, judgement, Decision, passes, differs, stops, settling, decide, verdict_of, settles}
 
 -- The test of two vectors.
 pub same-equal : (l r : Vector) → same l r ≡ true → l ≡ r
@@ -84,10 +85,16 @@ or_else passes rest = rest
 or_else (differs o l r) rest = differs o l r
 or_else (stops k o) rest = stops k o
 
-pub else-first : (d rest : Decision) → (verdict_of d ≡ Pass → ⊥) → or_else d rest ≡ d
-else-first passes rest h = absurd (h refl)
-else-first (differs o l r) rest h = refl
-else-first (stops k o) rest h = refl
+-- What the search's answer says of the decision that it comes from.
+pub else-first : (n : ℕ) (d rest : Decision) → is_err (settles n d) ≡ true → or_else d rest ≡ d
+else-first n passes rest h = cc
+else-first n (differs o l r) rest h = refl
+else-first n (stops k o) rest h = refl
+
+pub settles-none : (n : ℕ) (d : Decision) → is_err (settles n d) ≡ false → d ≡ passes
+settles-none n passes e = refl
+settles-none n (differs o l r) e = cc
+settles-none n (stops k o) e = cc
 
 -- What a verdict that comes from a decision says of it.
 pub decided-pass : (d : Decision) → verdict_of d ≡ Pass → d ≡ passes

@@ -1,24 +1,22 @@
 -- The search for the first overlap that settles the verdict: what the loops keep.
 --
 -- Main results: `from`, the overlaps from a generator on, with `from_all`, `from-above`, `from_step`, `from_end`, `open_row`,
--- `open-inner`, `open-item`, `row-over`; `pair-among`; `found-first`, `found-then`, `found-last`, `found-pass`; `Seeking`, with
+-- `open-inner`, `open-item`, `row-over`; `pair-among`; `found-first`, `found-then`, `found-last`; `Seeking`, with
 -- `seek-start`, `seek-as`, `seek-end`, `seek-found`, `seek-next`.
-use mathlib.Core.Path.{◌≡◌, sym, ap, ap₂, ◌∙◌, subst}
+use mathlib.Core.Path.{◌≡◌, refl, sym, ap, ap₂, ◌∙◌, subst}
 use mathlib.Core.List.{List, [], ◌∷◌, ◌++◌, append_assoc}
 use Prim.Native.Nat.{ℕ, suc, ◌+◌, ◌-◌, ◌/◌, ◌≤◌, ◌<◌}
 use native.Mathlib.Omega.{arith}
+use mathlib.Core.Bool.{true, false}
+use Rattle.std.specs.Prelude.{Result, Ok, Err, is_err}
 use Rattle.theory.specs.Overlaps.{Overlap, Among, rising, each}
 use Rattle.layout.specs.Header.{rank_of}
-use Rattle.layout.specs.Judged.{judged}
 use Rattle.layout.specs.Relations.{presentation}
-use Rattle.layout.proofs.Accepted.{accepted}
 use Rattle.consistency.specs.declared.Checked.{Checked}
 use Rattle.consistency.specs.declared.Family.{Family}
 use Rattle.consistency.specs.declared.Family.TheVariants.{Upper, Lower}
-use Rattle.consistency.specs.declared.Verdict.TheVariants.{Pass}
-use Rattle.consistency.specs.Check.{pair_of, Decision, passes, decide, verdict_of, without_vectors, checked_of}
-use Rattle.consistency.proofs.Deciding.{or_else, else-first, decide-append, decided-pass}
-use Rattle.consistency.proofs.Comparing.{blank}
+use Rattle.consistency.specs.Check.{pair_of, Decision, decide, settles}
+use Rattle.consistency.proofs.Deciding.{or_else, else-first, settles-none, decide-append}
 
 -- The overlaps of the generators from a to n.
 abbrev pub from : ℕ → ℕ → (ℕ → List Overlap) → List Overlap
@@ -73,53 +71,46 @@ module _ (nums : List ℕ) (budget size : ℕ) where
   abbrev dec : List Overlap → Decision
   dec os = decide nums budget (size / 3) os
 
-  abbrev said : Decision → Checked
-  said d = checked_of (rank_of nums) d
-
-  module _ (os : List Overlap) {k : ℕ} (long : k ≡ size) {c : Checked} (f : c ≡ checked_of (rank_of nums) (decide nums budget (k / 3) os)) where
-    pub found-last : c ≡ checked_of (rank_of nums) (decide nums budget (size / 3) os)
-    found-last = f ∙ ap (λ (k : ℕ). said (decide nums budget (k / 3) os)) long
-
-    verdict-is : c.verdict ≡ verdict_of (dec os)
-    verdict-is = ap (λ (x : Checked). x.verdict) found-last
-
-    pub found-pass : c.verdict ≡ Pass → c ≡ checked_of (rank_of nums) passes
-    found-pass p = found-last ∙ ap said (decided-pass (dec os) (sym verdict-is ∙ p))
+  module _ (os : List Overlap) {k : ℕ} (long : k ≡ size) {r : Result (Unit {0}) Checked}
+      (f : r ≡ settles (rank_of nums) (decide nums budget (k / 3) os)) where
+    pub found-last : r ≡ settles (rank_of nums) (decide nums budget (size / 3) os)
+    found-last = f ∙ ap (λ (k : ℕ). settles (rank_of nums) (decide nums budget (k / 3) os)) long
 
     module _ (qs : List Overlap) where
-      pub found-first : (c.verdict ≡ Pass → ⊥) → c ≡ checked_of (rank_of nums) (decide nums budget (size / 3) (os ++ qs))
+      pub found-first : is_err r ≡ true → r ≡ settles (rank_of nums) (decide nums budget (size / 3) (os ++ qs))
       found-first p =
-          found-last ∙ ap said (sym (decide-append nums budget (size / 3) os qs ∙ else-first (dec os) (dec qs) (λ e. p (verdict-is ∙ e))))
+          found-last
+          ∙ ap (settles (rank_of nums))
+          (sym (decide-append nums budget (size / 3) os qs ∙ else-first (rank_of nums) (dec os) (dec qs) (ap is_err (sym found-last) ∙ p)))
 
-      pub found-then : c.verdict ≡ Pass → decide nums budget (size / 3) (os ++ qs) ≡ decide nums budget (size / 3) qs
+      pub found-then : is_err r ≡ false → decide nums budget (size / 3) (os ++ qs) ≡ decide nums budget (size / 3) qs
       found-then p =
-          decide-append nums budget (size / 3) os qs ∙ ap (λ (d : Decision). or_else d (dec qs)) (decided-pass (dec os) (sym verdict-is ∙ p))
+          decide-append nums budget (size / 3) os qs
+          ∙ ap (λ (d : Decision). or_else d (dec qs)) (settles-none (rank_of nums) (dec os) (ap is_err (sym found-last) ∙ p))
 
 -- No overlap before the rest settled the verdict, and the rest decides what the whole decides.
-pub record Seeking (nums : List ℕ) (budget : ℕ) (size : ℕ) (whole rest : List Overlap) (c : Checked) : Type 0 where
-  pub passing : c ≡ checked_of (rank_of nums) passes
+pub record Seeking (nums : List ℕ) (budget : ℕ) (size : ℕ) (whole rest : List Overlap) (found : Result (Unit {0}) Checked) : Type 0 where
+  pub none : found ≡ Ok tt
   pub decides : decide nums budget (size / 3) rest ≡ decide nums budget (size / 3) whole
 
-pub seek-start : {nums : List ℕ} {budget size : ℕ} {whole rest : List Overlap} {c : Checked} → judged nums ≡ 0 → c ≡ without_vectors Pass → whole ≡ rest
-    → Seeking nums budget size whole rest c
-seek-start {nums} {budget} {size} h p e =
-    record { passing = p ∙ blank (rank_of nums) Pass (accepted nums h).measured.most; decides = ap (decide nums budget (size / 3)) (sym e) }
+is-none : (r : Result (Unit {0}) Checked) → is_err r ≡ false → r ≡ Ok tt
+is-none (Ok u) e = refl
+is-none (Err c) e = cc
 
-module _ {nums : List ℕ} {budget : ℕ} {size : ℕ} {whole : List Overlap} {c : Checked} where
-  pub seek-as : {rest other : List Overlap} → rest ≡ other → Seeking nums budget size whole rest c → Seeking nums budget size whole other c
-  seek-as e s = subst (λ (x : List Overlap). Seeking nums budget size whole x c) e s
+pub seek-start : {nums : List ℕ} {budget size : ℕ} {whole rest : List Overlap} → whole ≡ rest → Seeking nums budget size whole rest (Ok tt)
+seek-start {nums} {budget} {size} e = record { none = refl; decides = ap (decide nums budget (size / 3)) (sym e) }
 
-  pub seek-end : Seeking nums budget size whole [] c → c ≡ checked_of (rank_of nums) (decide nums budget (size / 3) whole)
-  seek-end s = s.passing ∙ ap (checked_of (rank_of nums)) s.decides
+module _ {nums : List ℕ} {budget : ℕ} {size : ℕ} {whole : List Overlap} {found : Result (Unit {0}) Checked} where
+  pub seek-as : {rest other : List Overlap} → rest ≡ other → Seeking nums budget size whole rest found → Seeking nums budget size whole other found
+  seek-as e s = subst (λ (x : List Overlap). Seeking nums budget size whole x found) e s
 
-  module _ {o : Overlap} {rest : List Overlap} (s : Seeking nums budget size whole (o ∷ rest) c) {k : ℕ} (long : k ≡ size) {r : Checked}
-      (f : r ≡ checked_of (rank_of nums) (decide nums budget (k / 3) (o ∷ []))) where
-    pub seek-found : (r.verdict ≡ Pass → ⊥) → r ≡ checked_of (rank_of nums) (decide nums budget (size / 3) whole)
-    seek-found p = found-first nums budget size (o ∷ []) long f rest p ∙ ap (checked_of (rank_of nums)) s.decides
+  pub seek-end : Seeking nums budget size whole [] found → found ≡ settles (rank_of nums) (decide nums budget (size / 3) whole)
+  seek-end s = s.none ∙ ap (settles (rank_of nums)) s.decides
 
-    pub seek-next : r.verdict ≡ Pass → Seeking nums budget size whole rest r
-    seek-next p =
-        record {
-          passing = found-pass nums budget size (o ∷ []) long f p;
-          decides = sym (found-then nums budget size (o ∷ []) long f rest p) ∙ s.decides;
-        }
+  module _ {o : Overlap} {rest : List Overlap} (s : Seeking nums budget size whole (o ∷ rest) found) {k : ℕ} (long : k ≡ size)
+      {r : Result (Unit {0}) Checked} (f : r ≡ settles (rank_of nums) (decide nums budget (k / 3) (o ∷ []))) where
+    pub seek-found : is_err r ≡ true → r ≡ settles (rank_of nums) (decide nums budget (size / 3) whole)
+    seek-found p = found-first nums budget size (o ∷ []) long f rest p ∙ ap (settles (rank_of nums)) s.decides
+
+    pub seek-next : is_err r ≡ false → Seeking nums budget size whole rest r
+    seek-next p = record { none = is-none r p; decides = sym (found-then nums budget size (o ∷ []) long f rest p) ∙ s.decides }

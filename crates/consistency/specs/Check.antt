@@ -1,8 +1,8 @@
 -- Judging one overlap, the first overlap that settles the verdict, and what the check answers.
 --
 -- Main definitions: `overlap_of` and `named`, the code's overlaps and the theory's; `Judgement` and `judgement`; `Decision` and `decide`;
--- `check_of`, `work_after`.
-use Rattle.std.specs.Prelude.{List, [], ◌∷◌, ◌++◌, Bool, true, false, ℕ, suc, ◌-◌, length, replicate, eqb}
+-- `check_of`, `settles`, `work_after`.
+use Rattle.std.specs.Prelude.{List, [], ◌∷◌, ◌++◌, Bool, true, false, ℕ, suc, ◌-◌, length, replicate, eqb, Result, Ok, Err}
 use Rattle.theory.specs.Presentation.{Vector, identity}
 use Rattle.theory.specs.Overlaps.{Overlap, triple, upper, lower, single, rising, each, overlaps}
 use Rattle.layout.specs.Header.{rank_of}
@@ -117,6 +117,12 @@ padded n v = v ++ replicate (40 - n) 0
 
 abbrev pub checked_of : ℕ → Decision → Checked
 checked_of n d = record { verdict = verdict_of d; left = padded n (left_of n d); right = padded n (right_of n d) }
+
+-- What the search for the overlap that settles the verdict answers: Ok where none does, else what the check says.
+abbrev pub settles : ℕ → Decision → Result (Unit {0}) Checked
+settles n passes = Ok tt
+settles n (differs o l r) = Err (checked_of n (differs o l r))
+settles n (stops k o) = Err (checked_of n (stops k o))
 
 -- A verdict that is not DIFFERS: "all entries are 0".
 abbrev pub without_vectors : Verdict → Checked

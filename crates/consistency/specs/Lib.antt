@@ -2,5 +2,4 @@
 pub mod Verdict
 pub mod Sides
 pub mod Check
-pub mod Collected
 pub mod Laying

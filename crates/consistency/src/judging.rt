@@ -3,49 +3,36 @@ ghost use Rattle.std.specs.Prelude.{◌≡◌, [], ◌∷◌, ◌/◌, length};
 ghost use Rattle.theory.specs.Overlaps.{Among};
 ghost use Rattle.layout.specs.Header.{rank_of};
 ghost use Rattle.layout.specs.Relations.{presentation};
-ghost use Rattle.consistency.specs.Sides.{left_pieces, right_pieces};
-ghost use Rattle.consistency.specs.Check.{overlap_of, side_outcome, decide, checked_of};
-ghost use Rattle.consistency.specs.Collected.{collected, both};
+ghost use Rattle.consistency.specs.Check.{overlap_of, decide, settles};
 
 use crate::sides::{collect_side, sides_of};
 use crate::{Checked, Overlap, Verdict};
-use layout::{Group, Refusal};
+use layout::Group;
 
-// The two vectors that the sides of an overlap are collected to, "left side first", each with the whole budget and the whole room.
-fn collect_sides(
-    group: Group,
-    o: Overlap,
-    budget: u32,
-    work: &mut [u16],
-) -> Result<([u8; 40], [u8; 40]), Refusal>
+// What the check says where the overlap o is the first that settles the verdict; Ok where it settles nothing. The sides are collected "left
+// side first", each with the whole budget and the whole room. That the overlap is one of this group's is asked here and of its sides: a type
+// of such overlaps would carry the group, and be compared with the one at hand at each use.
+pub fn judge_overlap(group: Group, o: Overlap, budget: u32, work: &mut [u16]) -> Result<(), Checked>
     requires { Among (presentation group.numbers.now) 1 (overlap_of o) }
     ensures { let nums = group.entry.numbers.now in
-        let room = length work.old / 3 in
-        result ≡ both (collected (rank_of nums) (side_outcome nums budget room (left_pieces nums (overlap_of o))))
-        (collected (rank_of nums) (side_outcome nums budget room (right_pieces nums (overlap_of o)))) }
+        result ≡ settles (rank_of nums) (decide nums budget (length work.old / 3) (overlap_of o ∷ [])) }
 {
+    let n = usize::from(group.view.rank.0); // the generators are counted in 16 bits, as the numbers are read, and places in a usize
     let (first, second) = sides_of(group, o);
-    let left = collect_side(group, first, budget, work)?;
-    let right = collect_side(group, second, budget, work)?;
-    Ok((left, right))
-}
-
-// The verdict where the overlap o is the only one.
-pub fn judge_overlap(group: Group, o: Overlap, budget: u32, work: &mut [u16]) -> Checked
-    requires { Among (presentation group.numbers.now) 1 (overlap_of o) }
-    ensures { let nums = group.entry.numbers.now in
-        result ≡ checked_of (rank_of nums) (decide nums budget (length work.old / 3) (overlap_of o ∷ [])) }
-{
-    let (left, right) = match collect_sides(group, o, budget, work) {
-        Ok(sides) => sides,
-        Err(refusal) => return Checked::without_vectors(Verdict::Stopped(refusal, o)),
-    };
-    if left == right {
-        return Checked::without_vectors(Verdict::Pass);
+    let mut left = [0u8; 40];
+    let mut right = [0u8; 40];
+    if let Err(refused) = collect_side(group, first, &mut left[..n], budget, work) {
+        return Err(Checked::without_vectors(Verdict::Stopped(refused.refusal, o)));
     }
-    Checked {
+    if let Err(refused) = collect_side(group, second, &mut right[..n], budget, work) {
+        return Err(Checked::without_vectors(Verdict::Stopped(refused.refusal, o)));
+    }
+    if left == right {
+        return Ok(());
+    }
+    Err(Checked {
         verdict: Verdict::Differs(o),
         left,
         right,
-    }
+    })
 }

@@ -27,12 +27,12 @@ pub enum Overlap {
     Single(Generator),
 }
 
-impl Overlap {
-    // The number of its family and its generators, 0 for one that it does not have.
-    pub fn numbers(self) -> [u16; 4]
-        ensures { result ≡ family_of self ∷ generators_of self }
-    {
-        match self {
+// The number of its family and its generators, 0 for one that it does not have.
+impl From<Overlap> for [u16; 4] {
+    ghost from_gives = { λ overlap numbers. numbers ≡ family_of overlap ∷ generators_of overlap };
+
+    fn from(overlap: Overlap) -> [u16; 4] {
+        match overlap {
             Overlap::Triple(i, j, k) => [1, i.0, j.0, k.0],
             Overlap::Pair(Family::Upper, i, j) => [2, i.0, j.0, 0],
             Overlap::Pair(Family::Lower, i, j) => [3, i.0, j.0, 0],
@@ -41,7 +41,8 @@ impl Overlap {
     }
 }
 
-// What the check says: refused with 1 to 6, which have no overlap, or stopped with 9 or 10 at an overlap.
+// What the check says: refused with 1 to 6, which have no overlap, or stopped with 9 or 10 at an overlap. An enum of its own, since PASS,
+// DIFFERS and REFUSED are what the check is promised to say.
 #[derive(Clone, Copy, PartialEq, Eq, Debug)]
 pub enum Verdict {
     Pass,
@@ -50,7 +51,8 @@ pub enum Verdict {
     Stopped(Refusal, Overlap),
 }
 
-// The verdict and beside it the two vectors: 0 past n, and 0 unless it differs.
+// The verdict and beside it the two vectors: 0 past n, and 0 unless it differs. They are fields beside the verdict, which every caller reads
+// as promised, whatever the verdict.
 #[derive(Clone, Copy, PartialEq, Eq, Debug)]
 pub struct Checked {
     pub verdict: Verdict,
@@ -95,7 +97,10 @@ pub fn check(numbers: &[u16], budget: u32, work: &mut [u16]) -> Checked
         Ok(group) => group,
         Err(refusal) => return Checked::without_vectors(Verdict::Refused(refusal)),
     };
-    let checked = search(group, budget, work);
+    let checked = match search(group, budget, work) {
+        Ok(()) => Checked::without_vectors(Verdict::Pass),
+        Err(settled) => settled,
+    };
     work.fill(0);
     checked
 }

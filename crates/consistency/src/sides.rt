@@ -3,16 +3,17 @@ ghost use Rattle.std.specs.Prelude.{◌≡◌, ◌≤◌, ◌/◌, length, drop}
 ghost use Rattle.theory.specs.Overlaps.{Among};
 ghost use Rattle.layout.specs.Header.{rank_of, bodies_at};
 ghost use Rattle.layout.specs.Relations.{presentation};
+ghost use Rattle.collector.specs.Running.{Answers};
 ghost use Rattle.consistency.specs.Sides.{left_pieces, right_pieces, worded, side_pieces, IfPartRight, SideRight};
 ghost use Rattle.consistency.specs.Check.{overlap_of, side_outcome};
-ghost use Rattle.consistency.specs.Collected.{collected};
 ghost use Rattle.consistency.specs.Laying.{Laid, Lays, LaysPart};
 
 use crate::{Family, Overlap, Part, Side};
+use collector::Answer;
 use collector::inputs::wordless;
 use collector::running::settle;
 use collector::starting::put;
-use layout::{Exponent, Generator, Group, Refusal};
+use layout::{Exponent, Generator, Group};
 use slots::Slot;
 
 // Puts a power on `depth` slots, if there is one, and answers how many slots there are then.
@@ -38,14 +39,7 @@ fn put_word(group: Group, i: Generator, j: Generator, work: &mut [u16], depth: u
     if span.pairs == 0 {
         return depth;
     }
-    put(
-        work,
-        depth,
-        Slot::Relation {
-            start: span.start,
-            pairs: span.pairs,
-        },
-    );
+    put(work, depth, Slot::from(span));
     depth + 1
 }
 
@@ -63,24 +57,22 @@ fn put_side(group: Group, side: Side, work: &mut [u16]) -> usize
     put_part(work, second, side.first)
 }
 
-// "Each side is collected from the identity .. with the whole budget and the whole room afresh." The vector is 0 past n.
+// "Each side is collected from the identity .. with the whole budget and the whole room afresh."
 pub fn collect_side(
     group: Group,
     side: Side,
+    vector: &mut [u8],
     budget: u32,
     work: &mut [u16],
-) -> Result<[u8; 40], Refusal>
-    requires { SideRight (rank_of group.numbers.now) side }
+) -> Answer
+    requires side_right { SideRight (rank_of group.numbers.now) side }
+    requires vector_len { length vector.old ≡ rank_of group.numbers.now }
     ensures { let nums = group.entry.numbers.now in
-        result ≡ collected (rank_of nums) (side_outcome nums budget (length work.old / 3) (side_pieces nums side)) }
+        Answers (side_outcome nums budget (length work.old / 3) (side_pieces nums side)) work.old vector.new work.new result }
 {
-    let n = usize::from(group.view.rank.0);
-    let mut vector = [0u8; 40];
+    vector.fill(0);
     let depth = put_side(group, side, work);
-    match settle(wordless(group), &mut vector[..n], budget, 0, work, depth) {
-        Ok(_) => Ok(vector),
-        Err(refused) => Err(refused.refusal),
-    }
+    settle(wordless(group), vector, budget, 0, work, depth)
 }
 
 // The left side and the right one: "x_j x_k w_jk x_i" and "x_k x_i x_j w_ij", "w_j x_i" and "x_j^(p-1) x_i x_j w_ij",

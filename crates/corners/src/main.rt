@@ -12,17 +12,17 @@ mod work; // the workspace before and after a call
 
 use answer::line_for;
 use collector::{collect, depth, inverse, product};
-use layout::{Generator, judge, word_of};
-use report::{number_of, print_answer, print_check};
+use layout::{Generator, given, judge, word_of};
+use report::{print_answer, print_check};
 use std::io;
 use std::rt::Files;
-use table::{before, decimal, field, numbers_in, read_file, read_numbers};
+use table::{before, decimal, each_line, field, numbers_in, read_file, read_numbers};
 use total::{part_mut, print_row};
 use work::{SOIL, state_of};
 
 // The presentation's number, 0 to 6.
 fn judge_it(rt: &impl Print, numbers: &[u16]) -> io::Result<()> {
-    let number = number_of(judge(numbers));
+    let number = given(&judge(numbers));
     print!(rt; " {number}")
 }
 
@@ -37,7 +37,7 @@ fn fetch(rt: &impl Print, line: &[u8], numbers: &[u16]) -> io::Result<()> {
 fn fathom(rt: &impl Print, line: &[u8], numbers: &[u16]) -> io::Result<()> {
     let mut room = [0u8; 64];
     let answer = depth(numbers, numbers_in(field(line, 3), &mut room));
-    let number = number_of(answer);
+    let number = given(&answer);
     let depth = answer.unwrap_or(0);
     print!(rt; " {number} {depth}")
 }
@@ -90,6 +90,7 @@ fn check_it(
 // The calls that take a workspace: the check, named "verdict", and those that change a vector. A budget past 32 bits is 0.
 fn with_work(rt: &(impl Files + Print), line: &[u8], numbers: &[u16]) -> io::Result<()> {
     let mut room = [0u16; 24576];
+    // The cast keeps the number, which has at most 44 bits; usize::try_from would name a failure that there is none of.
     let work = part_mut(&mut room, decimal(field(line, 6)) as usize);
     work.fill(SOIL);
     let budget = u32::try_from(decimal(field(line, 5))).unwrap_or(0);
@@ -118,10 +119,5 @@ fn call(rt: &(impl Files + Print), line: &[u8]) -> io::Result<()> {
 }
 
 fn main(rt: HostRuntime) -> io::Result<()> {
-    let mut room = [0u8; 131072];
-    let table = read_file(&rt, b"calls", &mut room);
-    for line in table.split_inclusive(|byte| *byte == b'\n') {
-        call(&rt, before(line, b'\n'))?;
-    }
-    Ok(())
+    each_line(&rt, b"calls", &mut [0u8; 131072], |line| call(&rt, line))
 }

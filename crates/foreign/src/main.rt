@@ -7,13 +7,14 @@ use collector::{Answer, inverse, product};
 use pcp_run::print_line;
 use std::io;
 use std::rt::Files;
-use table::{before, field, numbers_in, read_file, read_numbers};
+use table::{each_line, field, numbers_in, read_numbers};
 use total::print_row;
 
 // More than any of these calls needs; one that needs more is printed as refused.
 const BUDGET: u32 = 1000000;
 
-// What came back: the vector, or the number of the refusal.
+// What came back: the vector, or the number of the refusal. `corners` prints the number, the count and the vector of every answer: one
+// function for both would need a flag for each part.
 fn print_answer(rt: &impl Print, answer: Answer, vector: &[u8]) -> io::Result<()> {
     match answer {
         Ok(_) => print_row(rt, vector)?,
@@ -58,10 +59,5 @@ fn call(rt: &(impl Files + Print), line: &[u8]) -> io::Result<()> {
 }
 
 fn main(rt: HostRuntime) -> io::Result<()> {
-    let mut room = [0u8; 65536];
-    let table = read_file(&rt, b"calls", &mut room);
-    for line in table.split_inclusive(|byte| *byte == b'\n') {
-        call(&rt, before(line, b'\n'))?;
-    }
-    Ok(())
+    each_line(&rt, b"calls", &mut [0u8; 65536], |line| call(&rt, line))
 }

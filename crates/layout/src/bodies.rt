@@ -18,22 +18,21 @@ pub fn pair_right(view: View, low: Generator, g: Generator, a: Exponent) -> bool
 pub fn stretch_right(stretch: &[u16], floor: Generator, view: View) -> bool
     ensures { result ≡ stretch_right (exponent_in view) view.rank.0 floor.0 stretch.now }
 {
+    let (pairs, rest) = stretch.as_chunks::<2>();
     let mut low = floor;
-    let mut rest = stretch;
-    while let [g, a, more @ ..] = rest {
+    for [g, a] in pairs {
         let g = Generator(*g);
         if !pair_right(view, low, g, Exponent(*a)) {
             return false;
         }
         low = g;
-        rest = more;
     }
     rest.is_empty()
 }
 
 impl<'a> Spanned<'a> {
     // Whether the stretches of row i are right, the first of which is named by `first`. The floor of the word for j is j, and the
-    // c-th word of the row is the one for j = i + c + 1.
+    // c-th word of the row is the one for j = i + c + 1, so c is counted: it says both the entry and the floor.
     pub fn row_right(self, i: u16, first: usize) -> bool
         requires i_bound { i < rank_of self.listed.numbers.now }
         requires first_value { first ≡ row_at (rank_of self.listed.numbers.now) i }

@@ -22,7 +22,7 @@ pub use contents::{entry_of, row_of};
 pub use group::Group;
 pub use header::view_of;
 pub use judging::{accept, judge};
-pub use refusal::Refusal;
+pub use refusal::{Refusal, given};
 pub use words::{names_relation, word_of};
 
 // The number of a generator, 1 to n.

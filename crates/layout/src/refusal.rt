@@ -2,6 +2,7 @@
 // where nothing is refused.
 ghost use Rattle.std.specs.Prelude.{◌≡◌};
 ghost use Rattle.layout.specs.Refusals.{refusal_number};
+ghost use Rattle.layout.specs.Refusals.{given as given_of};
 
 // The cases stand in the order in which a call makes its checks.
 #[derive(Clone, Copy, PartialEq, Eq, Debug)]
@@ -27,5 +28,15 @@ impl From<Refusal> for u8 {
 
     fn from(refusal: Refusal) -> u8 {
         refusal as u8
+    }
+}
+
+// The number that an answer gives back: 0, DONE, where nothing is refused.
+pub fn given<T>(answer: &Result<T, Refusal>) -> u8
+    ensures { result ≡ given_of answer.now }
+{
+    match answer {
+        Ok(_) => 0,
+        Err(refusal) => u8::from(*refusal),
     }
 }

@@ -1,5 +1,6 @@
 // The line of a verdict: one function for each case.
 ghost use Rattle.std.specs.Prelude.{◌≡◌, [], ◌∷◌, ◌++◌, ◌+◌, ◌≤◌, length};
+ghost use Rattle.text.specs.Ascii.{ascii};
 ghost use Rattle.text.specs.Decimal.{spaced};
 ghost use Rattle.layout.specs.Refusals.{refusal_number};
 ghost use Rattle.consistency.specs.Verdict.{family_of, generators_of};
@@ -9,7 +10,7 @@ use crate::count::overlaps;
 use arrayvec::ArrayString;
 use consistency::{Checked, Overlap, Verdict};
 use layout::{Exponent, Generator, Refusal};
-use text::{put_number, put_numbers, put_three};
+use text::{put_number, put_numbers};
 
 // A line has at most 1,776 bytes.
 pub type Line = ArrayString<2048>;
@@ -20,7 +21,7 @@ fn put_overlap(out: &mut Line, overlap: Overlap)
     ensures added { out.new.bytes ≡ out.old.bytes ++ spaced (family_of overlap ∷ generators_of overlap) }
     ensures upper_bound { length out.new.bytes ≤ length out.old.bytes + 84 }
 {
-    put_numbers(out, &overlap.numbers().map(u64::from));
+    put_numbers(out, &<[u16; 4]>::from(overlap).map(u64::from));
 }
 
 // The entries of a vector, as numbers to print.
@@ -46,11 +47,9 @@ fn pass_line(prime: Exponent, rank: Generator) -> Line
 {
     let mut line = Line::new();
     line.push_str("pass");
-    put_three(
+    put_numbers(
         &mut line,
-        u64::from(prime.0),
-        u64::from(rank.0),
-        overlaps(rank),
+        &[u64::from(prime.0), u64::from(rank.0), overlaps(rank)],
     );
     line.push('\n');
     line
@@ -68,13 +67,22 @@ fn differs_line(rank: Generator, overlap: Overlap, left: [u8; 40], right: [u8; 4
     line
 }
 
-// A refusal that has no overlap.
+// The number of a refusal, with the word before it.
+fn put_refusal(out: &mut Line, refusal: Refusal)
+    requires { length out.old.bytes + 28 ≤ 2048 }
+    ensures added { out.new.bytes ≡ out.old.bytes ++ (ascii "refused" ++ spaced (refusal_number refusal ∷ [])) }
+    ensures upper_bound { length out.new.bytes ≤ length out.old.bytes + 28 }
+{
+    out.push_str("refused");
+    put_number(out, u64::from(u8::from(refusal)));
+}
+
+// A refusal that has no overlap. This line and the one at an overlap are two functions, as the definitions of their names are two.
 pub fn refused_line(refusal: Refusal) -> Line
     ensures { result.bytes ≡ refused_line (refusal_number refusal) }
 {
     let mut line = Line::new();
-    line.push_str("refused");
-    put_number(&mut line, u64::from(u8::from(refusal)));
+    put_refusal(&mut line, refusal);
     line.push('\n');
     line
 }
@@ -85,8 +93,7 @@ fn stopped_line(refusal: Refusal, overlap: Overlap) -> Line
     ensures { result.bytes ≡ stopped_line (refusal_number refusal) overlap }
 {
     let mut line = Line::new();
-    line.push_str("refused");
-    put_number(&mut line, u64::from(u8::from(refusal)));
+    put_refusal(&mut line, refusal);
     put_overlap(&mut line, overlap);
     line.push('\n');
     line

@@ -8,6 +8,7 @@ use std::{fs, io};
 
 // Reads an open file to its end or until the bytes are full: what it read, or nothing where a read fails.
 // The library's reading to the end takes a heap, and tries an interrupted read again.
+// `table` has its own, which keeps what came before a failed read: one function for both would give back that and whether a read failed.
 fn read_open<'a>(file: &mut impl Read, bytes: &'a mut [u8]) -> Option<&'a [u8]> {
     let mut at: usize = 0;
     while at < bytes.len() {

@@ -15,12 +15,9 @@ use Rattle.theory.specs.Presentation.{Vector}
 use Rattle.theory.specs.Placing.{total}
 use Rattle.layout.specs.declared.Generator.{Generator}
 use Rattle.layout.specs.declared.Span.{Span}
-use Rattle.layout.specs.Header.{rank_of, entries}
-use Rattle.layout.specs.Contents.{Spans, start_of, row_at, entry_at}
-use Rattle.layout.specs.Judged.{judged}
-use Rattle.layout.proofs.Stretches.{start_is, within}
-use Rattle.layout.proofs.Accepted.{accepted}
-use Rattle.layout.proofs.Bounds.{all-few}
+use Rattle.layout.specs.Header.{rank_of, bodies_at, entries}
+use Rattle.layout.specs.Contents.{Spans, Measured, start_of, length_of, row_at, entry_at, body_at}
+use Rattle.layout.proofs.Stretches.{stretch-fits}
 use Rattle.slots.specs.declared.Slot.{Slot}
 use Rattle.slots.specs.declared.Slot.TheVariants.{Relation}
 use Rattle.slots.specs.Slots.{stack, Brought, power_of}
@@ -72,9 +69,9 @@ pub span-is : {nums : List ℕ} {e : ℕ} {span : Span} → Spans nums e span �
 span-is s = λ i. record { start = s.start i; pairs = s.pairs i }
 
 -- A start is at most the number of pairs.
-pub start_small : (nums : List ℕ) (e : ℕ) → judged nums ≡ 0 → e < entries (rank_of nums) → start_of nums e ≤ 10660
-start_small nums e h l =
-    omega (arith, start_is nums e (accepted nums h).measured.starts l, within nums (entries (rank_of nums)) e l, all-few nums h)
+pub start_small : (nums : List ℕ) (e : ℕ) → Measured nums → length nums ≤ bodies_at nums + 2 * 10660 → e < entries (rank_of nums)
+    → start_of nums e ≤ 10660
+start_small nums e m h l = let f : body_at nums e + 2 * length_of nums e ≤ length nums = stretch-fits nums e m l in omega arith
 
 -- One entry more, from the last down.
 module _ (nums : List ℕ) (i : ℕ) (v : Vector) (below : List Slot) where

@@ -12,11 +12,9 @@ use Rattle.theory.specs.Placing.{total}
 use Rattle.layout.specs.declared.Generator.{Generator}
 use Rattle.layout.specs.declared.Span.{Span}
 use Rattle.layout.specs.declared.View.{View}
-use Rattle.layout.specs.Header.{Seen, rank_of, entries}
-use Rattle.layout.specs.Contents.{Spans, row_at}
-use Rattle.layout.specs.Judged.{judged}
+use Rattle.layout.specs.Header.{Seen, rank_of, bodies_at, entries}
+use Rattle.layout.specs.Contents.{Spans, Measured, row_at}
 use Rattle.layout.proofs.Rows.{in_row}
-use Rattle.layout.proofs.Accepted.{accepted}
 use Rattle.slots.specs.declared.Slot.{Slot}
 use Rattle.slots.specs.Slots.{stack, Brought}
 use Rattle.slots.proofs.Stores.{length-stack}
@@ -79,36 +77,39 @@ module _ {nums : List ℕ} {i : ℕ} {v : Vector} {below : List Slot} {at left :
         }
 
     -- Another one has its place in row i of the contents ..
-    module _ (accepts : judged nums ≡ 0) (long : length v ≡ rank_of nums) where
+    module _ (measured : Measured nums) (long : length v ≡ rank_of nums) where
       pub met_generator : at - 1 + 1 ≤ 40
-      met_generator = omega (arith, more, met.within, long, (accepted nums accepts).measured.most)
+      met_generator = omega (arith, more, met.within, long, measured.most)
 
       module _ {view : View} (seen : Seen nums view) {row : ℕ} (row_is : row ≡ row_at view.rank.0 i) where
         pub met_listed : row + (at - 1 - low) < entries (rank_of nums)
         met_listed =
             let e = row_is ∙ ap (λ (x : ℕ). row_at x i) seen.rank in
-            let h = in_row (rank_of nums) i (at - 1 - i) (accepted nums accepts).measured.most (omega (arith, low_is, more, met.within, long))
+            let h = in_row (rank_of nums) i (at - 1 - i) measured.most (omega (arith, low_is, more, met.within, long))
             (omega (arith, low_is, more, met.within, long)) in
             omega (arith, e, h, low_is)
 
         -- .. where what is put for it starts, ..
-        module _ {span : Span} (spans : Spans nums (row + (at - 1 - low)) span) where
+        module _ (few : length nums ≤ bodies_at nums + 2 * 10660) {span : Span} (spans : Spans nums (row + (at - 1 - low)) span) where
           pub met_start : span.start ≤ 10660
-          met_start = omega (arith, spans.start, start_small nums (row + (at - 1 - low)) accepts met_listed)
+          met_start = omega (arith, spans.start, start_small nums (row + (at - 1 - low)) measured few met_listed)
 
           -- .. and puts its slots.
-          module _ {r : ℕ} {ws' : List ℕ}
-              (put : Brought (entry_slots span (record { 0 = at - 1 + 1 }) (get_or u (at - 1) 0) (stack ws d)) ws ws' r) where
+          module _ {g : Generator} (named : g.0 ≡ at - 1 + 1) {r : ℕ} {ws' : List ℕ}
+              (put : Brought (entry_slots span g (get_or u (at - 1) 0) (stack ws d)) ws ws' r) where
+            named-is : g ≡ record { 0 = at - 1 + 1 }
+            named-is = λ i. record { 0 = named i }
+
             turned : Brought (exchange_slots nums i (at - 1 + 1) (drop (at - 1) v) below) ws ws' r
             turned =
                 turn-put nums i v below at (omega (arith, low_is, more)) met.within d row met.slots (row_is ∙ ap (λ (x : ℕ). row_at x i) seen.rank)
                 (subst (λ (x : ℕ). Spans nums (row + (at - 1 - x)) span) low_is spans)
-                (subst (λ (x : ℕ). Brought (entry_slots span (record { 0 = at - 1 + 1 }) x (stack ws d)) ws ws' r) met-entry put)
+                (subst (λ (x : ℕ). Brought (entry_slots span (record { 0 = at - 1 + 1 }) x (stack ws d)) ws ws' r) met-entry
+                (subst (λ (x : Generator). Brought (entry_slots span x (get_or u (at - 1) 0) (stack ws d)) ws ws' r) named-is put))
 
             -- They are at most two for each of at most 255.
             pub met_near : get_or u (at - 1) 0 < 256 → 3 * r ≤ length ws + 1530
             met_near small =
-                let g : Generator = record { 0 = at - 1 + 1 } in
                 let k = entry-small span g (stack ws d) (get_or u (at - 1) 0) in
                 omega (arith, length-stack ws d, k, put.depth, small, met.fits)
 

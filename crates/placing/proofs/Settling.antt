@@ -1,33 +1,27 @@
 -- Setting down pairs, one after the other; and the pairs that accepted numbers hold can be set down.
 --
 -- Main results: `settable_front`, `settled_front`, `settled_end`, `settable`.
-use mathlib.Core.Path.{◌≡◌, refl, sym, ap, ◌∙◌, subst}
-use mathlib.Core.List.{List, [], ◌∷◌, ◌++◌}
-use Prim.Native.Nat.{ℕ, ◌-◌, ◌≤◌, ◌<◌}
+use mathlib.Core.Path.{◌≡◌, refl, sym, ap, subst}
+use mathlib.Core.List.{List, [], ◌∷◌}
+use Prim.Native.Nat.{ℕ, ◌+◌, ◌-◌, ◌*◌, ◌/◌, ◌≤◌, ◌<◌}
 use native.Mathlib.Omega.{arith}
-use lib.ListN.{length, get_or, set}
+use lib.ListN.{length, get_or, set, drop}
 use Rattle.theory.specs.Presentation.{Vector}
+use Rattle.std.specs.Simd.{first_chunks}
 use Rattle.layout.specs.Relations.{settled}
+use Rattle.layout.proofs.Pairs.{pair_front}
 use Rattle.layout.proofs.Relations.{Pairs, none, pair}
 use Rattle.placing.specs.Settable.{Settable}
 
--- What is left of the numbers is a pair, and the rest.
-pair-is : (first : List ℕ) → length first ≡ 2 → first ≡ get_or first 0 0 ∷ get_or first 1 0 ∷ []
-pair-is [] e = absurd (omega arith)
-pair-is (g ∷ []) e = absurd (omega arith)
-pair-is (g ∷ a ∷ []) e = refl
-pair-is (g ∷ a ∷ h ∷ l) e = absurd (omega arith)
+module _ (s : List ℕ) {pairs : List (List ℕ)} {j : ℕ} (are : pairs ≡ first_chunks 2 (length s / 2) s) (here : j < length s / 2) where
+  pub settable_front : (n : ℕ) → Settable n (drop (2 * j) s)
+      → ((1 ≤ get_or (get_or pairs j []) 0 0) × (get_or (get_or pairs j []) 0 0 ≤ n) × (get_or (get_or pairs j []) 1 0 < 256))
+      × Settable n (drop (2 * (j + 1)) s)
+  settable_front n f = subst (Settable n) (pair_front s are here) f
 
-left-is : (left first rest : List ℕ) → left ≡ first ++ rest → length first ≡ 2 → left ≡ get_or first 0 0 ∷ get_or first 1 0 ∷ rest
-left-is left first rest is two = is ∙ ap (λ (l : List ℕ). l ++ rest) (pair-is first two)
-
-pub settable_front : (n : ℕ) (left first rest : List ℕ) → left ≡ first ++ rest → length first ≡ 2 → Settable n left
-    → ((1 ≤ get_or first 0 0) × (get_or first 0 0 ≤ n) × (get_or first 1 0 < 256)) × Settable n rest
-settable_front n left first rest is two f = subst (Settable n) (left-is left first rest is two) f
-
-pub settled_front : (v : Vector) (left first rest : List ℕ) → left ≡ first ++ rest → length first ≡ 2
-    → settled (set v (get_or first 0 0 - 1) (get_or first 1 0)) rest ≡ settled v left
-settled_front v left first rest is two = sym (ap (settled v) (left-is left first rest is two))
+  pub settled_front : (v : Vector)
+      → settled (set v (get_or (get_or pairs j []) 0 0 - 1) (get_or (get_or pairs j []) 1 0)) (drop (2 * (j + 1)) s) ≡ settled v (drop (2 * j) s)
+  settled_front v = sym (ap (settled v) (pair_front s are here))
 
 pub settled_end : (v : Vector) (left : List ℕ) → length left < 2 → settled v left ≡ v
 settled_end v [] h = refl

@@ -45,7 +45,7 @@ fn allow(left: u32, cost: u32, room: usize, after: usize) -> Result<(), Refusal>
 }
 
 // Steps 1 and 2: the letter i is taken off the slots, what the entries above it become is put on them, and these entries are 0 then; `sum`
-// is their sum. Answers how many slots there are then, or a number above the room.
+// is their sum. Answers how many slots there are then, or a number above the room: BUDGET is judged first, and `Passes` speaks of the number.
 fn slots_after(
     texts: Texts,
     vector: &mut [u8],
@@ -61,10 +61,10 @@ fn slots_after(
         vector.new work.new result }
 {
     let taken = take(texts.group.bodies, texts.word, work, depth);
-    if work.len() < 3 * taken {
+    if room(work) < taken {
         return taken;
     }
-    exchange(texts.group, vector, i, sum, work, taken)
+    exchange(texts.group.spanned(), vector, i, sum, work, taken)
 }
 
 // One placing. `left` is what the budget leaves above the count so far.

@@ -8,27 +8,26 @@ ghost use Rattle.placing.specs.Exchange.{cleared};
 
 use layout::{Generator, Group, View};
 
-// The sum of the entries above generator i: how many exchanges placing it takes. By index: over short tails a chain is slower.
+// The sum of the entries above generator i: how many exchanges placing it takes.
 pub fn tail_sum(vector: &[u8], i: Generator) -> u32
     requires { (i.0 ≤ length vector.now) × (length vector.now ≤ 40) }
     ensures { (result ≡ total (drop i.0 vector.now)) × (result ≤ 10200) }
 {
     let mut sum: u32 = 0;
-    for at in usize::from(i.0)..vector.len() {
-        sum += u32::from(vector[at]);
+    for entry in &vector[usize::from(i.0)..] {
+        sum += u32::from(*entry);
     }
     sum
 }
 
 // Sets the exponents of a relation's pairs down, one pair after the other.
-#[tactic(auto, using(crate::proofs::Settling::settable_front, crate::proofs::Settling::settled_front, crate::proofs::Settling::settled_end))]
 pub fn set_down(vector: &mut [u8], stretch: &[u16])
     requires { Settable (length vector.old) stretch.now }
     ensures { vector.new ≡ settled vector.old stretch.now }
 {
-    for pair in stretch.chunks_exact(2) {
+    for [g, a] in stretch.as_chunks::<2>().0 {
         // Proved to be a byte: there is no other case to answer.
-        vector[usize::from(pair[0]) - 1] = pair[1] as u8;
+        vector[usize::from(*g) - 1] = *a as u8;
     }
 }
 

@@ -1,89 +1,98 @@
-// Changing a row of letters: closing a gap, and spelling words and vectors out into it; and counting its letters.
-ghost use Rattle.std.specs.Prelude.{◌≡◌, ◌+◌, ◌-◌, ◌≤◌, length, OnOk};
+// Changing the lent letters: closing a gap, and spelling words and vectors out into them; and counting them.
+ghost use Rattle.std.specs.Prelude.{◌≡◌, ◌+◌, ◌-◌, ◌≤◌, length, MatchResult};
 
-use crate::{Fault, Row};
-
-impl<const N: usize> Row<N> {
-    // No letters yet.
-    pub fn new() -> Row<N>
-        ensures { result.len ≡ 0 }
-    {
-        Row {
-            letters: [0; N],
-            len: 0,
-        }
-    }
-
-    // Takes out the k letters from `at` on: the later ones move up to it.
-    pub fn close(&mut self, at: usize, k: usize)
-        requires { at + k ≤ self.old.len }
-        ensures { self.new.len ≡ self.old.len - k }
-    {
-        let len = self.len;
-        self.letters.copy_within(at + k..len, at);
-        self.len = len - k;
-    }
-
-    // Puts k letters g before the letter at `at`: it and the later ones move down.
-    fn insert(&mut self, at: usize, g: u16, k: usize) -> Result<(), Fault>
-        requires { at ≤ self.old.len }
-        ensures { OnOk result (self.new.len ≡ self.old.len + k) }
-    {
-        let len = self.len;
-        if k > N - len {
-            return Err(Fault::NoRoom);
-        }
-        let letters = &mut self.letters[..];
-        letters.copy_within(at..len, at + k);
-        letters[at..at + k].fill(g);
-        self.len = len + k;
-        Ok(())
-    }
-
-    // Puts the letters of a word of pairs generator, exponent before the letter at `at`.
-    pub fn insert_word(&mut self, word: &[u16], at: usize) -> Result<(), Fault>
-        requires { at ≤ self.old.len }
-    {
-        let mut to = at;
-        for [g, e] in word.as_chunks::<2>().0 {
-            let k = usize::from(*e);
-            self.insert(to, *g, k)?;
-            to += k;
-        }
-        Ok(())
-    }
-
-    // Appends a word of pairs generator, exponent.
-    pub fn append_word(&mut self, word: &[u16]) -> Result<(), Fault> {
-        let end = self.len;
-        self.insert_word(word, end)
-    }
-
-    // Appends the normal word of a vector: x_1 as often as its first entry says, and so on, up to 40 entries.
-    pub fn append_vector(&mut self, vector: &[u8]) -> Result<(), Fault> {
-        for (g, e) in (1..=40).zip(vector) {
-            let end = self.len;
-            self.insert(end, g, usize::from(*e))?;
-        }
-        Ok(())
-    }
-
-    // The vector of a normal word: each entry becomes the number of its generator's letters.
-    pub fn vector_of(&self, vector: &mut [u8]) -> Result<(), Fault>
-        ensures { length vector.new ≡ length vector.old }
-    {
-        vector.fill(0);
-        for g in &self.letters[..self.len] {
-            one_more(vector, usize::from(*g))?;
-        }
-        Ok(())
-    }
+// A word or a vector that did not fit, and how many letters there are now: what came before the letters without room was put in.
+#[derive(Clone, Copy, PartialEq, Eq, Debug)]
+pub struct Full {
+    pub len: usize,
 }
 
-// Counts one letter into its entry.
-fn one_more(vector: &mut [u8], g: usize) -> Result<(), Fault> {
-    let at = g.checked_sub(1).ok_or(Fault::NoEntry)?;
-    let entry = vector.get_mut(at).ok_or(Fault::NoEntry)?;
-    *entry = entry.checked_add(1).ok_or(Fault::NoEntry)?;
-    Ok(())
+// Takes out the k letters from `at` on: the later ones move up to it.
+pub fn close(letters: &mut [u16], len: usize, at: usize, k: usize) -> usize
+    requires { (at + k ≤ len) × (len ≤ length letters.old) }
+    ensures value { result ≡ len - k }
+    ensures letters_len_unchanged { length letters.new ≡ length letters.old }
+{
+    letters.copy_within(at + k..len, at);
+    len - k
+}
+
+// Puts k letters g before the letter at `at`: it and the later ones move down.
+fn insert(letters: &mut [u16], len: usize, at: usize, g: u16, k: usize) -> Result<usize, Full>
+    requires { (at ≤ len) × (len ≤ length letters.old) }
+    ensures grows { MatchResult result (λ grown. (grown ≡ len + k) × (grown ≤ length letters.old)) (λ full. full.len ≡ len) }
+    ensures letters_len_unchanged { length letters.new ≡ length letters.old }
+{
+    if k > letters.len() - len {
+        return Err(Full { len });
+    }
+    letters.copy_within(at..len, at + k);
+    letters[at..at + k].fill(g);
+    Ok(len + k)
+}
+
+// Puts the letters of a word of pairs generator, exponent before the letter at `at`.
+pub fn insert_word(word: &[u16], letters: &mut [u16], len: usize, at: usize) -> Result<usize, Full>
+    requires { (at ≤ len) × (len ≤ length letters.old) }
+    ensures len_bound { MatchResult result (λ grown. grown ≤ length letters.old) (λ full. full.len ≤ length letters.old) }
+    ensures letters_len_unchanged { length letters.new ≡ length letters.old }
+{
+    let mut grown = len;
+    let mut to = at;
+    for [g, e] in word.as_chunks::<2>().0 {
+        let k = usize::from(*e);
+        grown = insert(letters, grown, to, *g, k)?;
+        to += k;
+    }
+    Ok(grown)
+}
+
+// Appends a word of pairs generator, exponent to the first `len` letters, and answers how many there are now.
+pub fn append_word(word: &[u16], letters: &mut [u16], len: usize) -> Result<usize, Full>
+    requires { len ≤ length letters.old }
+    ensures len_bound { MatchResult result (λ grown. grown ≤ length letters.old) (λ full. full.len ≤ length letters.old) }
+    ensures letters_len_unchanged { length letters.new ≡ length letters.old }
+{
+    insert_word(word, letters, len, len)
+}
+
+// Appends the normal word of a vector to the first `len` letters, and answers how many there are now: x_1 as often as its first entry
+// says, and so on, up to 40 entries.
+pub fn append_vector(vector: &[u8], letters: &mut [u16], len: usize) -> Result<usize, Full>
+    requires { len ≤ length letters.old }
+    ensures len_bound { MatchResult result (λ grown. grown ≤ length letters.old) (λ full. full.len ≤ length letters.old) }
+    ensures letters_len_unchanged { length letters.new ≡ length letters.old }
+{
+    let mut grown = len;
+    for (g, e) in (1..=40).zip(vector) {
+        grown = insert(letters, grown, grown, g, usize::from(*e))?;
+    }
+    Ok(grown)
+}
+
+// The vector of a normal word: each entry becomes the number of its generator's letters among the first `len`. The letters counted come
+// back, `len` if every one had an entry.
+pub fn vector_of(letters: &[u16], len: usize, vector: &mut [u8]) -> usize
+    requires { len ≤ length letters.now }
+    ensures upper_bound { result ≤ len }
+    ensures vector_len_unchanged { length vector.new ≡ length vector.old }
+{
+    vector.fill(0);
+    let mut counted = 0;
+    // Not a chain of `filter` and `count`: its test would write to the vector.
+    for g in &letters[..len] {
+        if one_more(vector, usize::from(*g)).is_some() {
+            counted += 1;
+        }
+    }
+    counted
+}
+
+// Counts one letter into its entry, unless it has none or that is full.
+fn one_more(vector: &mut [u8], g: usize) -> Option<()>
+    ensures { length vector.new ≡ length vector.old }
+{
+    let entry = vector.get_mut(g.checked_sub(1)?)?;
+    *entry = entry.checked_add(1)?;
+    Some(())
 }

@@ -14,99 +14,131 @@
 mod leftmost;
 mod letters;
 mod relation;
-mod row;
 
-ghost use Rattle.std.specs.Prelude.{◌+◌, ◌≤◌, ◌<◌, MatchResult, get_or};
+ghost use Rattle.std.specs.Prelude.{◌≡◌, ◌+◌, ◌≤◌, ◌<◌, length, IfOk, MatchResult, get_or};
 ghost use Rattle.second.specs.Normal.{Normal};
 ghost use Rattle.second.specs.Reach.{reach};
 
-use leftmost::Kind;
+use leftmost::{Kind, leftmost};
+use letters::{close, insert_word};
+pub use letters::{Full, append_vector, append_word, vector_of};
 use relation::{number, word_of};
-pub use row::Row;
 
-// Why there is no answer. After NoRoom and Senseless the row's letters say nothing.
+// The letters are lent, so that a caller chooses their room; they and how many of them are the word stand side by side.
+
+// Letters that a rewriting made normal: how many they are now, and its replacements.
+#[derive(Clone, Copy, PartialEq, Eq, Debug)]
+pub struct Rewritten {
+    pub len: usize,
+    pub count: u32,
+}
+
+// Why there is no normal word. After NoRoom and Senseless the letters say nothing.
 #[derive(Clone, Copy, PartialEq, Eq, Debug)]
 pub enum Fault {
     // The word is not normal yet, and the limit is reached.
     Limit,
-    // A word did not fit into the row's room.
+    // A word did not fit into the lent letters.
     NoRoom,
     // The numbers or the letters make no sense.
     Senseless,
-    // A letter has no entry in the vector, or a full one.
-    NoEntry,
 }
 
-// A rewriting that did not come to a normal word, and its replacements up to there.
+// A rewriting that did not come to a normal word: its letters and replacements up to there.
 #[derive(Clone, Copy, PartialEq, Eq, Debug)]
 pub struct Stopped {
     pub fault: Fault,
+    pub len: usize,
     pub count: u32,
 }
 
-impl From<Stopped> for Fault {
-    fn from(stopped: Stopped) -> Fault {
-        stopped.fault
+// The p equal letters from `at` on become the word of their power.
+fn power(
+    numbers: &[u16],
+    letters: &mut [u16],
+    len: usize,
+    at: usize,
+    p: usize,
+) -> Result<usize, Fault>
+    requires { (at + p ≤ len) × (at < len) × (len ≤ length letters.old) }
+    ensures len_bound { IfOk result (λ grown. grown ≤ length letters.old) }
+    ensures letters_len_unchanged { length letters.new ≡ length letters.old }
+{
+    let i = letters[at];
+    let word = word_of(numbers, i, i).ok_or(Fault::Senseless)?;
+    let rest = close(letters, len, at, p);
+    insert_word(word, letters, rest, at).map_err(|_| Fault::NoRoom)
+}
+
+// The letter at `at` and the lower one after it change places, and their relation's word follows.
+fn exchange(numbers: &[u16], letters: &mut [u16], len: usize, at: usize) -> Result<usize, Fault>
+    requires { (at + 2 ≤ len) × (len ≤ length letters.old) }
+    ensures len_bound { IfOk result (λ grown. grown ≤ length letters.old) }
+    ensures letters_len_unchanged { length letters.new ≡ length letters.old }
+{
+    let j = letters[at];
+    let i = letters[at + 1];
+    let word = word_of(numbers, i, j).ok_or(Fault::Senseless)?;
+    letters.swap(at, at + 1);
+    insert_word(word, letters, len, at + 2).map_err(|_| Fault::NoRoom)
+}
+
+// The non-normal subword that begins at `at` is replaced.
+fn replace(
+    numbers: &[u16],
+    letters: &mut [u16],
+    len: usize,
+    at: usize,
+    kind: Kind,
+    p: usize,
+) -> Result<usize, Fault>
+    requires { (at < len) × (at + reach kind p ≤ len) × (len ≤ length letters.old) }
+    ensures len_bound { IfOk result (λ grown. grown ≤ length letters.old) }
+    ensures letters_len_unchanged { length letters.new ≡ length letters.old }
+{
+    match kind {
+        Kind::Equal => power(numbers, letters, len, at, p),
+        Kind::Falls => exchange(numbers, letters, len, at),
     }
 }
 
-impl<const N: usize> Row<N> {
-    // The p equal letters from `at` on become the word of their power.
-    fn power(&mut self, numbers: &[u16], at: usize, p: usize) -> Result<(), Fault>
-        requires { (at + p ≤ self.old.len) × (at < self.old.len) }
-    {
-        let i = self.letters[at];
-        let word = word_of(numbers, i, i).ok_or(Fault::Senseless)?;
-        self.close(at, p);
-        self.insert_word(word, at)
+// Replaces until the first `len` letters are normal or `limit` replacements are made.
+pub fn rewrite(
+    numbers: &[u16],
+    letters: &mut [u16],
+    len: usize,
+    limit: u32,
+) -> Result<Rewritten, Stopped>
+    ensures bounds { MatchResult result (λ r. (r.len ≤ length letters.old) × (r.count ≤ limit))
+        (λ s. (s.len ≤ length letters.old) × (s.count ≤ limit)) }
+    ensures letters_len_unchanged { length letters.new ≡ length letters.old }
+    ensures normal { IfOk result (λ r. Normal letters.new r.len (get_or numbers.now 0 0)) }
+{
+    let p = number(numbers, 0);
+    if numbers.len() < 2 || p < 2 || len > letters.len() {
+        return Err(Stopped {
+            fault: Fault::Senseless,
+            len: 0,
+            count: 0,
+        });
     }
-
-    // The letter at `at` and the lower one after it change places, and their relation's word follows.
-    fn exchange(&mut self, numbers: &[u16], at: usize) -> Result<(), Fault>
-        requires { at + 2 ≤ self.old.len }
-    {
-        let j = self.letters[at];
-        let i = self.letters[at + 1];
-        let word = word_of(numbers, i, j).ok_or(Fault::Senseless)?;
-        self.letters.swap(at, at + 1);
-        self.insert_word(word, at + 2)
+    let mut len = len;
+    for count in 0..limit {
+        let Some((at, kind)) = leftmost(letters, len, p) else {
+            return Ok(Rewritten { len, count });
+        };
+        len = replace(numbers, letters, len, at, kind, p).map_err(|fault| Stopped {
+            fault,
+            len,
+            count,
+        })?;
     }
-
-    // The non-normal subword that begins at `at` is replaced.
-    fn replace(&mut self, numbers: &[u16], at: usize, kind: Kind, p: usize) -> Result<(), Fault>
-        requires { (at < self.old.len) × (at + reach kind p ≤ self.old.len) }
-    {
-        match kind {
-            Kind::Equal => self.power(numbers, at, p),
-            Kind::Falls => self.exchange(numbers, at),
-        }
-    }
-
-    // Replaces until the letters are normal or `limit` replacements are made, and answers how many were.
-    pub fn rewrite(&mut self, numbers: &[u16], limit: u32) -> Result<u32, Stopped>
-        ensures { MatchResult result (λ count. (count ≤ limit) × Normal self.new.letters self.new.len (get_or numbers.now 0 0))
-            (λ stopped. stopped.count ≤ limit) }
-    {
-        let p = number(numbers, 0);
-        if numbers.len() < 2 || p < 2 {
-            return Err(Stopped {
-                fault: Fault::Senseless,
-                count: 0,
-            });
-        }
-        for count in 0..limit {
-            let Some((at, kind)) = self.leftmost(p) else {
-                return Ok(count);
-            };
-            self.replace(numbers, at, kind, p)
-                .map_err(|fault| Stopped { fault, count })?;
-        }
-        match self.leftmost(p) {
-            None => Ok(limit),
-            Some(_) => Err(Stopped {
-                fault: Fault::Limit,
-                count: limit,
-            }),
-        }
+    match leftmost(letters, len, p) {
+        None => Ok(Rewritten { len, count: limit }),
+        Some(_) => Err(Stopped {
+            fault: Fault::Limit,
+            len,
+            count: limit,
+        }),
     }
 }

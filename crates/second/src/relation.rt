@@ -1,7 +1,7 @@
 // A relation's word in the lent numbers, found without any arithmetic of places: the relations are
 // walked in the order of the contents, (1, 1) .. (n, n), (1, 2), (1, 3) .., and the lengths of
 // those passed are summed. The starts that the contents hold are not read.
-ghost use Rattle.std.specs.Prelude.{◌≡◌, ◌+◌, ◌*◌, ◌≤◌, ◌<◌, slice_index};
+ghost use Rattle.std.specs.Prelude.{◌≡◌, ◌+◌, ◌*◌, ◌≤◌, ◌<◌, slice_index, IfSome};
 
 // The relations of n = 40, the most there are.
 const MOST: usize = 820;
@@ -20,7 +20,8 @@ struct Passed {
     pairs: usize,
 }
 
-// The number with index `at`; 0 past the end.
+// The number with index `at`; 0 past the end, as the clauses' `get_or` reads it: so a walk past the end needs no refusal of its own, and
+// `word_of` alone tests that a word ends within the numbers.
 pub fn number(numbers: &[u16], at: usize) -> usize
     ensures value { result ≡ slice_index numbers.now at }
     ensures upper_bound { result ≤ 65535 }
@@ -29,37 +30,36 @@ pub fn number(numbers: &[u16], at: usize) -> usize
 }
 
 impl Name {
-    // The relation after this one in the order of the contents. After the last one, (n - 1, n), comes
-    // (n, n + 1), which is none: so the walk to it passes them all.
-    fn next(self, n: usize) -> Name
+    // The relation after this one in the order of the contents; none after the last one, (n - 1, n), or (1, 1) where n is 1.
+    fn next(self, n: usize) -> Option<Name>
         requires { (self.i ≤ self.j) × (1 ≤ self.j) × (self.j < 1000) }
-        ensures { (result.i ≤ result.j) × (1 ≤ result.j) × (result.j ≤ self.j + 1) }
+        ensures { IfSome result (λ next. (next.i ≤ next.j) × (1 ≤ next.j) × (next.j ≤ self.j + 1)) }
     {
         let Name { i, j } = self;
-        if i < j && j < n {
-            return Name { i, j: j + 1 };
-        }
-        if i < j {
-            return Name { i: i + 1, j: i + 2 };
-        }
-        if i < n {
-            return Name { i: i + 1, j: j + 1 };
-        }
-        Name { i: 1, j: 2 }
+        let next = if i < j && j < n {
+            Name { i, j: j + 1 }
+        } else if i < j {
+            Name { i: i + 1, j: i + 2 }
+        } else if i < n {
+            Name { i: i + 1, j: j + 1 }
+        } else {
+            Name { i: 1, j: 2 }
+        };
+        (next.j <= n).then_some(next)
     }
 }
 
-// What stands before a relation in the contents.
-fn before(numbers: &[u16], n: usize, wanted: Name) -> Passed
+// What stands before a relation in the contents; before none, all that stands there.
+fn before(numbers: &[u16], n: usize, wanted: Option<Name>) -> Passed
     ensures { (result.relations ≤ 820) × (result.pairs ≤ 65535 * result.relations) }
 {
-    let mut name = Name { i: 1, j: 1 };
+    let mut name = Some(Name { i: 1, j: 1 });
     let mut pairs = 0;
     for relations in 0..MOST {
         if name == wanted {
             return Passed { relations, pairs };
         }
-        name = name.next(n);
+        name = name.and_then(|passed| passed.next(n));
         pairs += number(numbers, 2 * relations + 3);
     }
     Passed {
@@ -76,8 +76,8 @@ pub fn word_of(numbers: &[u16], i: u16, j: u16) -> Option<&[u16]> {
     if i == 0 || i > j || j > n {
         return None;
     }
-    let all = before(numbers, n, Name { i: n, j: n + 1 });
-    let passed = before(numbers, n, Name { i, j });
+    let all = before(numbers, n, None);
+    let passed = before(numbers, n, Some(Name { i, j }));
     let start = 2 + 2 * all.relations + 2 * passed.pairs;
     let pairs = number(numbers, 2 * passed.relations + 3);
     // Tested here, and not by `get`, so that what is proved of the part is that the word ends within the numbers.

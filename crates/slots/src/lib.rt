@@ -14,15 +14,17 @@
 //
 // A string is read where it stands: `bodies` is the part of the presentation from its first body on, `word` the input word.
 //
-// The workspace stays a lent `&mut [u16]` with the number of slots, `depth`, beside it: every call of the library promises that form.
+// The workspace stays a lent `&mut [u16]` with the number of slots, `depth`, beside it: every call of the library promises that form. What
+// `lessen` and `take` answer may be a number above the room: BUDGET is judged before ROOM, so the count goes on, and `Brought` speaks of it.
 #![tactic(auto)]
 
 ghost use Rattle.std.specs.Prelude.{◌≡◌, ◌+◌, ◌*◌, ◌-◌, ◌/◌, ◌≤◌, ◌<◌, length, get_or, replicate};
 ghost use Rattle.slots.specs.Slots.{decode, slot_at, stack, Sound, Pushed, Brought, lessened, power_of, pair_of, front_of, rest_of};
+ghost use Rattle.slots.specs.declared.Slot.TheVariants.{Relation};
 ghost use Rattle.slots.specs.Pieces.{pieces, leading};
 ghost use Rattle.slots.specs.Stacked.{Standing, Stacked, Took};
 
-use layout::{Exponent, Generator};
+use layout::{Exponent, Generator, Span};
 
 // Where the first number's ranges begin.
 const RELATION: u16 = 41;
@@ -30,7 +32,7 @@ const RELATION: u16 = 41;
 const INPUT: u16 = 20000;
 
 // A slot: a power, or the unread rest of a relation word or of the input word, from the pair number `start` on. The two strings
-// have the same fields and are two variants, since each is read from a text of its own; callers make them by these names.
+// have the same fields and are two variants, since each is read from a text of its own: `decode` and `Sound` speak of them by these names.
 #[derive(Clone, Copy)]
 pub enum Slot {
     Power(Generator, Exponent),
@@ -56,8 +58,20 @@ impl From<[u16; 3]> for Slot {
     }
 }
 
+// The whole word of a relation, unread, from what the contents say of it.
+impl From<Span> for Slot {
+    ghost from_gives = { λ span slot. slot ≡ Relation span.start span.pairs };
+
+    fn from(span: Span) -> Slot {
+        Slot::Relation {
+            start: span.start,
+            pairs: span.pairs,
+        }
+    }
+}
+
 impl Slot {
-    // The three numbers that the workspace holds of the slot.
+    // The three numbers that the workspace holds of the slot. A method, since a `From` cannot ask that the slot is sound.
     fn numbers(self) -> [u16; 3]
         requires { Sound self }
         ensures { decode (get_or result 0 0) (get_or result 1 0) (get_or result 2 0) ≡ self }

@@ -2,58 +2,58 @@
 // numbers in a field by single spaces. Reading asks nothing of a table: what is missing is empty, and what is no digit is passed over.
 #![tactic(auto)]
 
-ghost use Rattle.std.specs.Prelude.{◌+◌, ◌≤◌, length};
-
-use std::fs;
 use std::io::Read;
 use std::rt::Files;
+use std::{fs, io};
 use text::numbers_of;
 use total::part_mut;
 
-// Reads once into the bytes from `at` on, and answers how many came: 0 at the end, or where the read fails.
-fn read_on(file: &mut impl Read, bytes: &mut [u8], at: usize) -> usize
-    requires { at ≤ length bytes.old }
-    ensures { at + result ≤ length bytes.new }
-{
-    file.read(&mut bytes[at..]).unwrap_or(0)
-}
-
-// Reads an open file until the bytes are full, the file ends or a read fails, and answers how many bytes came. The loop goes on by what
-// each read gave. `pcp_run` has its own for the file that it judges, since there a failed read makes the whole file count as empty.
-fn read_open(file: &mut impl Read, bytes: &mut [u8]) -> usize {
-    let mut at = 0;
+// Reads an open file until the bytes are full, the file ends or a read fails: what came. `pcp_run` has its own, where a failed read makes
+// the whole file count as empty: one function for both would give back what came and whether a read failed, and each would drop one.
+fn read_open<'a>(file: &mut impl Read, bytes: &'a mut [u8]) -> &'a [u8] {
+    let mut at: usize = 0;
     while at < bytes.len() {
-        let more = read_on(file, bytes, at);
-        if more == 0 {
+        let got = file.read(&mut bytes[at..]).unwrap_or(0);
+        if got == 0 {
             break;
         }
-        at += more;
+        at += got;
     }
-    at
+    &bytes[..at]
 }
 
-fn read_named(rt: &impl Files, name: &[u8], bytes: &mut [u8]) -> usize {
-    let Ok(path) = str::from_utf8(name) else {
-        return 0;
-    };
-    let Ok(mut file) = fs::open(rt, path) else {
-        return 0;
-    };
-    read_open(&mut file, bytes)
+// What is read of the file of this name, where it can be opened. Paths are UTF-8 text here: any other name can't be opened.
+fn read_named<'a>(rt: &impl Files, name: &[u8], bytes: &'a mut [u8]) -> Option<&'a [u8]> {
+    let path = str::from_utf8(name).ok()?;
+    let mut file = fs::open(rt, path).ok()?;
+    Some(read_open(&mut file, bytes))
 }
 
-// Reads the file of this name, as far as there is room, and gives back the bytes that came: none if it can't be read. Paths are UTF-8
-// text here: any other name can't be read.
-pub fn read_file<'a>(rt: &impl Files, name: &[u8], bytes: &'a mut [u8]) -> &'a mut [u8] {
-    let count = read_named(rt, name, bytes);
-    part_mut(bytes, count)
+// Reads the file of this name, as far as there is room, and gives back the bytes that came: none if it can't be read.
+pub fn read_file<'a>(rt: &impl Files, name: &[u8], bytes: &'a mut [u8]) -> &'a [u8] {
+    read_named(rt, name, bytes).unwrap_or(&[])
 }
 
 // Reads the file of this name as 16-bit numbers, low byte first, and gives back those that came. A presentation has at most 22,962.
-pub fn read_numbers<'a>(rt: &impl Files, name: &[u8], numbers: &'a mut [u16]) -> &'a mut [u16] {
+pub fn read_numbers<'a>(rt: &impl Files, name: &[u8], numbers: &'a mut [u16]) -> &'a [u16] {
     let mut bytes = [0u8; 45926];
     let count = numbers_of(read_file(rt, name, &mut bytes), numbers);
-    part_mut(numbers, count)
+    &numbers[..count]
+}
+
+// Calls `each` with every line of the file of this name, as far as `room` holds it, until one call fails.
+pub fn each_line<F: Fn(&[u8]) -> io::Result<()>>(
+    rt: &impl Files,
+    name: &[u8],
+    room: &mut [u8],
+    each: F,
+) -> io::Result<()>
+    requires { F.IsAlwaysCallable each }
+{
+    for line in read_file(rt, name, room).split_inclusive(|byte| *byte == b'\n') {
+        each(before(line, b'\n'))?;
+    }
+    Ok(())
 }
 
 // What stands before the first `stop`.

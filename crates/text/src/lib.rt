@@ -6,4 +6,4 @@ pub mod reading; // bytes to 16-bit numbers
 pub mod writing; // decimals at the end of a text
 
 pub use reading::numbers_of;
-pub use writing::{put_number, put_numbers, put_three};
+pub use writing::{put_number, put_numbers};

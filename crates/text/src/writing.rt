@@ -29,12 +29,3 @@ pub fn put_numbers<const N: usize>(out: &mut ArrayString<N>, numbers: &[u64])
         put_number(out, *n);
     }
 }
-
-// Three numbers, each with a space before it: at most 63 bytes.
-pub fn put_three<const N: usize>(out: &mut ArrayString<N>, a: u64, b: u64, c: u64)
-    requires { length out.old.bytes + 63 ≤ N }
-    ensures added { out.new.bytes ≡ out.old.bytes ++ spaced (a ∷ b ∷ c ∷ []) }
-    ensures upper_bound { length out.new.bytes ≤ length out.old.bytes + 63 }
-{
-    put_numbers(out, &[a, b, c]);
-}

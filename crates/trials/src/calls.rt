@@ -1,15 +1,15 @@
-// One call of the proved collector and the same by the second one: whether vectors and counts agree. Each call has a workspace or a row of
+// One call of the proved collector and the same by the second one: whether vectors and counts agree. Each call has a workspace or
 // letters of its own, so that the functions above lend none.
 use crate::groups::{Group, Vector};
 use collector::{Answer, Refused, collect, inverse, product};
-use second::{Fault, Row};
+use second::{Rewritten, append_vector, append_word, rewrite, vector_of};
 use std::fmt;
 use total::{part, part_mut};
 
 // More than any of these calls needs; a call that needs more is a disagreement.
 const BUDGET: u32 = 1000000;
 
-// Numbers in a workspace, room for 200 slots, and letters in a row.
+// Numbers in a workspace, room for 200 slots, and letters.
 const WORK: usize = 600;
 
 const LETTERS: usize = 512;
@@ -53,47 +53,41 @@ fn first(group: Group, vector: &mut Vector, call: Call) -> Answer {
     }
 }
 
-// The vector of the row's normal word.
-fn normal(numbers: &[u16], row: &mut Row<LETTERS>, vector: &mut [u8]) -> Result<u32, Fault> {
-    let count = row.rewrite(numbers, BUDGET)?;
-    row.vector_of(vector)?;
-    Ok(count)
-}
-
-// The calls by the second collector. A word is appended to the vector's normal word.
-fn second_collects(numbers: &[u16], vector: &mut [u8], word: &[u16]) -> Result<u32, Fault> {
-    let mut row = Row::<LETTERS>::new();
-    row.append_vector(vector)?;
-    row.append_word(word)?;
-    normal(numbers, &mut row, vector)
-}
-
-// A right factor's normal word is appended.
-fn second_multiplies(numbers: &[u16], vector: &mut [u8], right: &[u8]) -> Result<u32, Fault> {
-    let mut row = Row::<LETTERS>::new();
-    row.append_vector(vector)?;
-    row.append_vector(right)?;
-    normal(numbers, &mut row, vector)
+// The call by the second collector: a word, or a right factor's normal word, is appended to the vector's normal word. An inverse appends
+// nothing. Why a call found no vector is not asked: it is a disagreement.
+fn second_appends(numbers: &[u16], vector: &mut [u8], call: Call) -> Option<u32> {
+    let mut letters = [0; LETTERS];
+    let len = append_vector(vector, &mut letters, 0).ok()?;
+    let len = match call {
+        Call::Word(word) => append_word(word, &mut letters, len).ok()?,
+        Call::Product(right) => append_vector(&right, &mut letters, len).ok()?,
+        Call::Inverse => len,
+    };
+    let Rewritten { len, count } = rewrite(numbers, &mut letters, len, BUDGET).ok()?;
+    (vector_of(&letters, len, vector) == len).then_some(count)
 }
 
 // Generator by generator, the entry there is brought to 0 by the power that the inverse has.
-fn second_inverts(group: Group, vector: &mut Vector) -> Result<u32, Fault> {
+fn second_inverts(group: Group, vector: &mut Vector) -> Option<u32> {
     let mut stands = *vector;
     let mut count: u32 = 0;
     for (at, entry) in vector.iter_mut().enumerate() {
         let a = stands[at];
         *entry = if a == 0 { 0 } else { group.p.saturating_sub(a) };
-        let power = [at as u16 + 1, u16::from(*entry)];
-        count = count.saturating_add(second_collects(group.numbers, &mut stands, &power)?);
+        let power = [u16::try_from(at + 1).ok()?, u16::from(*entry)];
+        count = count.saturating_add(second_appends(
+            group.numbers,
+            &mut stands,
+            Call::Word(&power),
+        )?);
     }
-    Ok(count)
+    Some(count)
 }
 
-fn second(group: Group, vector: &mut Vector, call: Call) -> Result<u32, Fault> {
+fn second(group: Group, vector: &mut Vector, call: Call) -> Option<u32> {
     match call {
-        Call::Word(word) => second_collects(group.numbers, vector, word),
-        Call::Product(right) => second_multiplies(group.numbers, vector, &right),
         Call::Inverse => second_inverts(group, vector),
+        Call::Word(_) | Call::Product(_) => second_appends(group.numbers, vector, call),
     }
 }
 
@@ -105,7 +99,7 @@ pub fn held(group: Group, vector: Vector, call: Call) -> Result<u32, Disagreemen
         first(group, &mut ours, call),
         second(group, &mut other, call),
     ) {
-        (Ok(count), Ok(same)) if count == same && ours == other => Ok(count),
+        (Ok(count), Some(same)) if count == same && ours == other => Ok(count),
         (Ok(count), _) | (Err(Refused { count, .. }), _) => Err(Disagreement { count }),
     }
 }

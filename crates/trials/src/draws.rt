@@ -21,6 +21,7 @@ impl Draws {
         if k == 0 {
             return 0;
         }
+        // The cast is proved to fit: the remainder is below k.
         (self.state / 1024 % u64::from(k)) as u16
     }
 }

@@ -6,6 +6,9 @@ use total::{part, part_mut, store};
 // A vector: its n entries, and 0 past them.
 pub type Vector = [u8; 8];
 
+// The digits of a presentation's relations.
+pub type Digits = [u8; 64];
+
 // A presentation, and the p and n that it begins with.
 #[derive(Clone, Copy)]
 pub struct Group<'a> {
@@ -50,24 +53,35 @@ pub fn present<'a>(p: u8, n: u8, digits: &[u8], numbers: &'a mut [u16]) -> Group
 }
 
 // The digits of a number to a base, the lowest first.
-pub fn write_digits(base: u8, number: u16, digits: &mut [u8]) {
+fn write_digits(base: u8, number: u16, digits: &mut [u8]) {
     if base == 0 {
         return;
     }
     let mut left = number;
     for digit in digits {
+        // The cast is proved to fit: the remainder is below the base.
         *digit = (left % u16::from(base)) as u8;
         left /= u16::from(base);
     }
 }
 
-// Digits below p, half of them 0, so that words are neither all full nor all empty.
-pub fn spread_digits(p: u8, draws: &mut Draws, digits: &mut [u8]) {
-    for digit in digits {
+// The digits of a number to the base p. Nothing is drawn.
+pub fn number_digits(p: u8, number: u16, _draws: &mut Draws) -> Digits {
+    let mut digits = [0u8; 64];
+    write_digits(p, number, &mut digits);
+    digits
+}
+
+// Digits below p, half of them 0, so that words are neither all full nor all empty. All are drawn, and no number is asked.
+pub fn spread_digits(p: u8, _number: u16, draws: &mut Draws) -> Digits {
+    let mut digits = [0u8; 64];
+    for digit in &mut digits {
         let coin = draws.below(2);
+        // The cast is proved to fit: the draw is at most p.
         let drawn = draws.below(u16::from(p)) as u8;
         *digit = if coin == 0 { 0 } else { drawn };
     }
+    digits
 }
 
 // The vector with a number, its entries the digits to the base p.

@@ -13,7 +13,9 @@ mod report; // printing
 
 use calls::{Call, Disagreement, held};
 use draws::Draws;
-use groups::{Group, Vector, make_vector, make_word, present, spread_digits, write_digits};
+use groups::{
+    Digits, Group, Vector, make_vector, make_word, number_digits, present, spread_digits,
+};
 use report::{disagreement, summary};
 use std::io;
 
@@ -122,28 +124,20 @@ impl Trials {
         Ok(())
     }
 
-    // So many presentations with p = 2: those whose relations have the digits of 0, 1, ..
-    fn all_numbered(&mut self, rt: &impl Print, n: u8, many: u16, times: u16) -> io::Result<()> {
-        for number in 0..many {
-            let mut digits = [0u8; 64];
-            write_digits(2, number, &mut digits);
-            self.one_group(rt, 2, n, &digits, times)?;
-        }
-        Ok(())
-    }
-
-    // So many presentations of p and n whose relations are drawn.
-    fn many_drawn(
+    // So many presentations of p and n, their relations' digits made from p, 0, 1, .. and the draws.
+    fn many_groups<F: Fn(u8, u16, &mut Draws) -> Digits>(
         &mut self,
         rt: &impl Print,
         p: u8,
         n: u8,
         many: u16,
         times: u16,
-    ) -> io::Result<()> {
-        for _ in 0..many {
-            let mut digits = [0u8; 64];
-            spread_digits(p, &mut self.draws, &mut digits);
+        digits: F,
+    ) -> io::Result<()>
+        requires { F.IsAlwaysCallable digits }
+    {
+        for number in 0..many {
+            let digits = digits(p, number, &mut self.draws);
             self.one_group(rt, p, n, &digits, times)?;
         }
         Ok(())
@@ -156,13 +150,13 @@ fn main(rt: HostRuntime) -> io::Result<()> {
         tally: Tally::default(),
     };
     // With p = 2 a relation's word is free in each generator above it: 0, 1 and 4 digits.
-    trials.all_numbered(&rt, 1, 1, 64)?;
-    trials.all_numbered(&rt, 2, 2, 64)?;
-    trials.all_numbered(&rt, 3, 16, 64)?;
-    trials.many_drawn(&rt, 2, 4, 60, 16)?;
-    trials.many_drawn(&rt, 2, 5, 60, 16)?;
-    trials.many_drawn(&rt, 3, 3, 40, 16)?;
-    trials.many_drawn(&rt, 3, 4, 24, 16)?;
-    trials.many_drawn(&rt, 5, 3, 24, 16)?;
+    trials.many_groups(&rt, 2, 1, 1, 64, number_digits)?;
+    trials.many_groups(&rt, 2, 2, 2, 64, number_digits)?;
+    trials.many_groups(&rt, 2, 3, 16, 64, number_digits)?;
+    trials.many_groups(&rt, 2, 4, 60, 16, spread_digits)?;
+    trials.many_groups(&rt, 2, 5, 60, 16, spread_digits)?;
+    trials.many_groups(&rt, 3, 3, 40, 16, spread_digits)?;
+    trials.many_groups(&rt, 3, 4, 24, 16, spread_digits)?;
+    trials.many_groups(&rt, 5, 3, 24, 16, spread_digits)?;
     summary(&rt, &trials.tally)
 }

@@ -6,6 +6,7 @@ ghost use Rattle.collector.specs.Calls.{collect_call, product_call, inverse_call
 ghost use Rattle.yavarosht.specs.Handed.{Handed, HandedDepth};
 
 use collector::{Answer, collect, depth, inverse, product};
+use layout::given;
 
 // Stores the count of an answer and gives its number: at the C interface an answer is these two, for C has no `Result`.
 fn hand_out(answer: Answer, count: &mut u32) -> u8
@@ -75,14 +76,7 @@ pub fn yav_inverse(
 pub fn yav_depth(numbers: &[u16], vector: &[u8], found: &mut u32) -> u8
     ensures { HandedDepth (depth_call numbers.now vector.now) result found.new }
 {
-    match depth(numbers, vector) {
-        Ok(first) => {
-            *found = u32::from(first);
-            0
-        }
-        Err(refusal) => {
-            *found = 0;
-            u8::from(refusal)
-        }
-    }
+    let fathomed = depth(numbers, vector);
+    *found = u32::from(fathomed.unwrap_or(0));
+    given(&fathomed)
 }

@@ -26,7 +26,7 @@ fn verdict_overlap(verdict: Verdict) -> [u16; 4]
 {
     match verdict {
         Verdict::Pass | Verdict::Refused(_) => [0; 4],
-        Verdict::Differs(overlap) | Verdict::Stopped(_, overlap) => overlap.numbers(),
+        Verdict::Differs(overlap) | Verdict::Stopped(_, overlap) => <[u16; 4]>::from(overlap),
     }
 }
 
@@ -43,6 +43,7 @@ pub fn yav_check(
         result overlap.new left.new right.new work.new }
 {
     let checked = check(numbers, budget, work);
+    // The borrow checker takes no field that is an array straight into a place: the two go by way of locals.
     let first = checked.left;
     let second = checked.right;
     *overlap = verdict_overlap(checked.verdict);

@@ -6,16 +6,13 @@ ghost use Rattle.layout.specs.Refusals.{given};
 ghost use Rattle.layout.specs.Words.{word_of, word_at};
 ghost use Rattle.yavarosht.specs.Handed.{HandedPart};
 
-use layout::{Generator, Refusal, accept, judge, names_relation};
+use layout::{Generator, Refusal, accept, given, judge, names_relation};
 
 // The number that the lent numbers get as a presentation: at the C interface a refusal is its number, for C has no `Result`.
 pub fn yav_judge(numbers: &[u16]) -> u8
     ensures { result ≡ judged numbers.now }
 {
-    match judge(numbers) {
-        Ok(()) => 0,
-        Err(refusal) => u8::from(refusal),
-    }
+    given(&judge(numbers))
 }
 
 // A part of the lent numbers, as C is told it: where it begins among them, and how many numbers it has.
@@ -46,16 +43,9 @@ fn fetch(numbers: &[u16], i: Generator, j: Generator) -> Result<Part, Refusal>
 pub fn yav_fetch(numbers: &[u16], i: u16, j: u16, start: &mut u32, count: &mut u32) -> u8
     ensures { HandedPart numbers.now i j result start.new count.new }
 {
-    match fetch(numbers, Generator(i), Generator(j)) {
-        Ok(part) => {
-            *start = part.start;
-            *count = part.count;
-            0
-        }
-        Err(refusal) => {
-            *start = 0;
-            *count = 0;
-            u8::from(refusal)
-        }
-    }
+    let fetched = fetch(numbers, Generator(i), Generator(j));
+    let part = fetched.unwrap_or(Part { start: 0, count: 0 });
+    *start = part.start;
+    *count = part.count;
+    given(&fetched)
 }

@@ -5,13 +5,13 @@ use Rattle.layout.specs.Header.{rank_of}
 use Rattle.consistency.specs.Check.{pair_of}
 use Rattle.consistency.proofs.Seeking.{from, rows, from_all, open_row, open-item, row-over, seek-start, seek-as, seek-next, seek-found}
 use Rattle.consistency.proofs.searching.search_pairs.Goals as goal
-use Rattle.consistency.proofs.searching.search_pairs.Goals.{else-loop-j-test, then-loop-j-test+else-ne+else-j-n}
+use Rattle.consistency.proofs.searching.search_pairs.Goals.{else-loop-j-test, then-loop-j-test+else-is_err+else-j-n}
 
 pub search-init : goal.search-init
 search-init c =
     let n = rank_of c.args.group.numbers.now in
     record {
-      seeks = seek-start c.args.group.accepts c.without_vectors-checked.ensures (from_all n (rows n (λ x y. pair_of c.args.family x y ∷ [])));
+      seeks = seek-start (from_all n (rows n (λ x y. pair_of c.args.family x y ∷ [])));
       some = omega arith;
     }
 
@@ -33,7 +33,7 @@ loop-j-preserved c =
       seeks =
           seek-next
           (seek-as (open-item n (λ y. pair_of f i y) c.loop-j.j (from n (i + 1) (rows n (λ x y. pair_of f x y ∷ []))) (omega arith)) c.loop-j.invariant.seeks)
-          (c.loop-j.auto.work ∙ c.search.auto.work) c.judge_overlap-checked.ensures (search rules);
+          (c.loop-j.auto.work ∙ c.search.auto.work) c.judge_overlap-found.ensures (search rules);
       some = omega arith;
       above = omega arith;
     }
@@ -49,21 +49,21 @@ search-preserved c =
       seeks =
           elim c.loop-j-test.branch [
             | else-loop-j-test w ↦
-                rw w.checked-is (seek-as (row-over n (λ y. pair_of f i y ∷ []) j after (omega arith)) c.loop-j.invariant.seeks)
-            | then-loop-j-test+else-ne+else-j-n w ↦
-                rw w.checked-is
+                rw w.found-is (seek-as (row-over n (λ y. pair_of f i y ∷ []) j after (omega arith)) c.loop-j.invariant.seeks)
+            | then-loop-j-test+else-is_err+else-j-n w ↦
+                rw w.found-is
                 (seek-as (row-over n (λ y. pair_of f i y ∷ []) (j + 1) after (omega arith))
                 (seek-next (seek-as (open-item n (λ y. pair_of f i y) j after (omega arith)) c.loop-j.invariant.seeks) (c.loop-j.auto.work ∙ c.search.auto.work)
-                w.judge_overlap-checked.ensures (search rules)))
+                w.judge_overlap-found.ensures (search rules)))
           ];
       some = omega arith;
     }
 
-pub returns-then-ne : goal.returns-then-ne
-returns-then-ne c =
+pub returns-then-is_err : goal.returns-then-is_err
+returns-then-is_err c =
     let n = rank_of c.args.group.numbers.now in
     let f = c.args.family in
     let i = c.search.i in
     seek-found
     (seek-as (open-item n (λ y. pair_of f i y) c.loop-j.j (from n (i + 1) (rows n (λ x y. pair_of f x y ∷ []))) (omega arith)) c.loop-j.invariant.seeks)
-    (c.loop-j.auto.work ∙ c.search.auto.work) c.judge_overlap-checked.ensures (search rules)
+    (c.loop-j.auto.work ∙ c.search.auto.work) c.judge_overlap-found.ensures (search rules)

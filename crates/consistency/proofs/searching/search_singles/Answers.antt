@@ -10,7 +10,7 @@ pub search-init : goal.search-init
 search-init c =
     record {
       seeks =
-          seek-start c.args.group.accepts c.without_vectors-checked.ensures (from_all (rank_of c.args.group.numbers.now) (λ x. single x ∷ []));
+          seek-start (from_all (rank_of c.args.group.numbers.now) (λ x. single x ∷ []));
       some = omega arith;
     }
 
@@ -20,21 +20,21 @@ search-preserved c =
     record {
       seeks =
           seek-next (seek-as (from_step n (λ x. single x ∷ []) c.search.i (omega arith)) c.search.invariant.seeks) c.search.auto.work
-          c.judge_overlap-checked.ensures (search rules);
+          c.judge_overlap-found.ensures (search rules);
       some = omega arith;
     }
 
-pub returns-then-ne : goal.returns-then-ne
-returns-then-ne c =
+pub returns-then-is_err : goal.returns-then-is_err
+returns-then-is_err c =
     let n = rank_of c.args.group.numbers.now in
     seek-found (seek-as (from_step n (λ x. single x ∷ []) c.search.i (omega arith)) c.search.invariant.seeks) c.search.auto.work
-    c.judge_overlap-checked.ensures (search rules)
+    c.judge_overlap-found.ensures (search rules)
 
-pub returns-else-ne : goal.returns-else-ne
-returns-else-ne c =
+pub returns-else-is_err : goal.returns-else-is_err
+returns-else-is_err c =
     let n = rank_of c.args.group.numbers.now in
     let i = c.search.i in
     seek-end
     (seek-as (from_end n (λ x. single x ∷ []) (i + 1) (omega arith))
     (seek-next (seek-as (from_step n (λ x. single x ∷ []) i (omega arith)) c.search.invariant.seeks) c.search.auto.work
-    c.judge_overlap-checked.ensures (search rules)))
+    c.judge_overlap-found.ensures (search rules)))

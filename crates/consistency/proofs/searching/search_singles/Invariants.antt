@@ -11,6 +11,6 @@ invariant-search l =
     let nums = l.group.numbers.now in
     let n = rank_of nums in
     record {
-      seeks : Seeking nums l.budget (length l.fn.work) (singles_of n) (from n l.i (λ x. single x ∷ [])) l.checked;
+      seeks : Seeking nums l.budget (length l.fn.work) (singles_of n) (from n l.i (λ x. single x ∷ [])) l.found;
       some : 1 ≤ l.i;
     }

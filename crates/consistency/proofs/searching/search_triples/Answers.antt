@@ -6,13 +6,13 @@ use Rattle.theory.specs.Overlaps.{triple}
 use Rattle.layout.specs.Header.{rank_of}
 use Rattle.consistency.proofs.Seeking.{from, rows, from_all, open_row, open-inner, open-item, row-over, seek-start, seek-as, seek-next, seek-found}
 use Rattle.consistency.proofs.searching.search_triples.Goals as goal
-use Rattle.consistency.proofs.searching.search_triples.Goals.{else-loop-j-test, then-loop-j-test+else-j-n, else-loop-k-test, then-loop-k-test+else-ne+else-k-n}
+use Rattle.consistency.proofs.searching.search_triples.Goals.{else-loop-j-test, then-loop-j-test+else-j-n, else-loop-k-test, then-loop-k-test+else-is_err+else-k-n}
 
 pub search-init : goal.search-init
 search-init c =
     let n = rank_of c.args.group.numbers.now in
     record {
-      seeks = seek-start c.args.group.accepts c.without_vectors-checked.ensures (from_all n (rows n (λ x. rows n (λ y z. triple x y z ∷ []))));
+      seeks = seek-start (from_all n (rows n (λ x. rows n (λ y z. triple x y z ∷ []))));
       some = omega arith;
     }
 
@@ -47,7 +47,7 @@ loop-k-preserved c =
     record {
       seeks =
           seek-next (seek-as (open-item n (λ z. triple i j z) c.loop-k.k after (omega arith)) c.loop-k.invariant.seeks)
-          (c.loop-k.auto.work ∙ c.loop-j.auto.work ∙ c.search.auto.work) c.judge_overlap-checked.ensures (search rules);
+          (c.loop-k.auto.work ∙ c.loop-j.auto.work ∙ c.search.auto.work) c.judge_overlap-found.ensures (search rules);
       some = omega arith;
       above = omega arith;
       beyond = omega arith;
@@ -64,12 +64,12 @@ loop-j-preserved c =
       seeks =
           elim c.loop-k-test.branch [
             | else-loop-k-test w ↦
-                rw w.checked-is (seek-as (row-over n (λ z. triple i j z ∷ []) k after (omega arith)) c.loop-k.invariant.seeks)
-            | then-loop-k-test+else-ne+else-k-n w ↦
-                rw w.checked-is
+                rw w.found-is (seek-as (row-over n (λ z. triple i j z ∷ []) k after (omega arith)) c.loop-k.invariant.seeks)
+            | then-loop-k-test+else-is_err+else-k-n w ↦
+                rw w.found-is
                 (seek-as (row-over n (λ z. triple i j z ∷ []) (k + 1) after (omega arith))
                 (seek-next (seek-as (open-item n (λ z. triple i j z) k after (omega arith)) c.loop-k.invariant.seeks)
-                (c.loop-k.auto.work ∙ c.loop-j.auto.work ∙ c.search.auto.work) w.judge_overlap-checked.ensures (search rules)))
+                (c.loop-k.auto.work ∙ c.loop-j.auto.work ∙ c.search.auto.work) w.judge_overlap-found.ensures (search rules)))
           ];
       some = omega arith;
       above = omega arith;
@@ -85,27 +85,27 @@ search-preserved c =
       seeks =
           elim c.loop-j-test.branch [
             | else-loop-j-test w ↦
-                rw w.checked-is (seek-as (row-over n (rows n (λ y z. triple i y z ∷ [])) j after (omega arith)) c.loop-j.invariant.seeks)
+                rw w.found-is (seek-as (row-over n (rows n (λ y z. triple i y z ∷ [])) j after (omega arith)) c.loop-j.invariant.seeks)
             | then-loop-j-test+else-j-n w ↦
                 elim w.loop-k-test.branch [
                   | else-loop-k-test v ↦
-                      rw w.checked-is
-                      (rw v.checked-is
+                      rw w.found-is
+                      (rw v.found-is
                       (seek-as
                       (row-over n (λ z. triple i j z ∷ []) w.loop-k.k (from n (j + 1) (rows n (λ y z. triple i y z ∷ [])) ++ after) (omega arith)
                       ∙ row-over n (rows n (λ y z. triple i y z ∷ [])) (j + 1) after (omega arith))
                       w.loop-k.invariant.seeks))
-                  | then-loop-k-test+else-ne+else-k-n v ↦ absurd (omega arith)
+                  | then-loop-k-test+else-is_err+else-k-n v ↦ absurd (omega arith)
                 ]
           ];
       some = omega arith;
     }
 
-pub returns-then-ne : goal.returns-then-ne
-returns-then-ne c =
+pub returns-then-is_err : goal.returns-then-is_err
+returns-then-is_err c =
     let n = rank_of c.args.group.numbers.now in
     let i = c.search.i in
     let j = c.loop-j.j in
     let after = from n (j + 1) (rows n (λ y z. triple i y z ∷ [])) ++ from n (i + 1) (rows n (λ x. rows n (λ y z. triple x y z ∷ []))) in
     seek-found (seek-as (open-item n (λ z. triple i j z) c.loop-k.k after (omega arith)) c.loop-k.invariant.seeks)
-    (c.loop-k.auto.work ∙ c.loop-j.auto.work ∙ c.search.auto.work) c.judge_overlap-checked.ensures (search rules)
+    (c.loop-k.auto.work ∙ c.loop-j.auto.work ∙ c.search.auto.work) c.judge_overlap-found.ensures (search rules)

@@ -5,7 +5,7 @@ use Rattle.placing.proofs.Exchanging.{Met}
 use Rattle.placing.proofs.entries.exchange.Given as goal
 
 abbrev pub invariant-loop-left : goal.invariant-loop-left
-invariant-loop-left l = Met l.group.numbers.now l.fn.i.0 l.initial.vector (stack l.initial.work l.depth) l.at l.left l.vector l.work l.d
+invariant-loop-left l = Met l.spanned.listed.numbers.now l.fn.i.0 l.initial.vector (stack l.initial.work l.depth) l.at l.left l.vector l.work l.d
 
 abbrev pub decreases-loop-left : goal.decreases-loop-left
 decreases-loop-left l = l.at

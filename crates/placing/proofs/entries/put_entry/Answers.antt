@@ -7,8 +7,8 @@ use Rattle.placing.proofs.entries.put_entry.Goals as goal
 pub returns-then-b-eq0 : goal.returns-then-b-eq0
 returns-then-b-eq0 c = search (rules, entry-none, length-stack)
 
-pub returns-then-work-depth : goal.returns-then-work-depth
-returns-then-work-depth c = search (rules, entry-power, length-stack)
+pub returns-then-room-depth : goal.returns-then-room-depth
+returns-then-room-depth c = search (rules, entry-power, length-stack)
 
 pub returns : goal.returns
 returns c = search (rules, entry-power, length-stack)

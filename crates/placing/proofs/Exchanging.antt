@@ -108,7 +108,7 @@ module _ {nums : List ℕ} {i : ℕ} {v : Vector} {below : List Slot} {at left :
                 (subst (λ (x : Generator). Brought (entry_slots span x (get_or u (at - 1) 0) (stack ws d)) ws ws' r) named-is put))
 
             -- They are at most two for each of at most 255.
-            pub met_near : get_or u (at - 1) 0 < 256 → 3 * r ≤ length ws + 1530
+            met_near : get_or u (at - 1) 0 < 256 → 3 * r ≤ length ws + 1530
             met_near small =
                 let k = entry-small span g (stack ws d) (get_or u (at - 1) 0) in
                 omega (arith, length-stack ws d, k, put.depth, small, met.fits)

@@ -2,6 +2,8 @@
 // is read and written no contract can say, so each function here is small and does one thing.
 #![tactic(auto)]
 
+ghost use Rattle.std.specs.Prelude.{◌≤◌, length, IfSome};
+
 use std::io::Read;
 use std::rt::Files;
 use std::{fs, io};
@@ -9,7 +11,9 @@ use std::{fs, io};
 // Reads an open file to its end or until the bytes are full: what it read, or nothing where a read fails.
 // The library's reading to the end takes a heap, and tries an interrupted read again.
 // `table` has its own, which keeps what came before a failed read: one function for both would give back that and whether a read failed.
-fn read_open<'a>(file: &mut impl Read, bytes: &'a mut [u8]) -> Option<&'a [u8]> {
+fn read_open<'a>(file: &mut impl Read, bytes: &'a mut [u8]) -> Option<&'a [u8]>
+    ensures { IfSome result (λ read. length read.now ≤ length bytes.old) }
+{
     let mut at: usize = 0;
     while at < bytes.len() {
         let got = file.read(&mut bytes[at..]).ok()?;
@@ -22,7 +26,9 @@ fn read_open<'a>(file: &mut impl Read, bytes: &'a mut [u8]) -> Option<&'a [u8]> 
 }
 
 // Reads the file of this name, where it can be read. Paths are UTF-8 text here: any other name can't be read.
-fn read_file<'a>(rt: &impl Files, name: &[u8], bytes: &'a mut [u8]) -> Option<&'a [u8]> {
+fn read_file<'a>(rt: &impl Files, name: &[u8], bytes: &'a mut [u8]) -> Option<&'a [u8]>
+    ensures { IfSome result (λ read. length read.now ≤ length bytes.old) }
+{
     let path = str::from_utf8(name).ok()?;
     let mut file = fs::open(rt, path).ok()?;
     read_open(&mut file, bytes)

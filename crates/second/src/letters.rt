@@ -1,5 +1,5 @@
 // Changing the lent letters: closing a gap, and spelling words and vectors out into them; and counting them.
-ghost use Rattle.std.specs.Prelude.{◌≡◌, ◌+◌, ◌-◌, ◌≤◌, length, MatchResult};
+ghost use Rattle.std.specs.Prelude.{◌≡◌, ◌+◌, ◌*◌, ◌-◌, ◌≤◌, length, MatchResult};
 
 // A word or a vector that did not fit, and how many letters there are now: what came before the letters without room was put in.
 #[derive(Clone, Copy, PartialEq, Eq, Debug)]
@@ -17,8 +17,8 @@ pub fn close(letters: &mut [u16], len: usize, at: usize, k: usize) -> usize
     len - k
 }
 
-// Puts k letters g before the letter at `at`: it and the later ones move down.
-fn insert(letters: &mut [u16], len: usize, at: usize, g: u16, k: usize) -> Result<usize, Full>
+// Makes a gap of k letters before the letter at `at`: it and the later ones move down, once for all that is put there.
+fn open(letters: &mut [u16], len: usize, at: usize, k: usize) -> Result<usize, Full>
     requires { (at ≤ len) × (len ≤ length letters.old) }
     ensures grows { MatchResult result (λ grown. (grown ≡ len + k) × (grown ≤ length letters.old)) (λ full. full.len ≡ len) }
     ensures letters_len_unchanged { length letters.new ≡ length letters.old }
@@ -27,24 +27,56 @@ fn insert(letters: &mut [u16], len: usize, at: usize, g: u16, k: usize) -> Resul
         return Err(Full { len });
     }
     letters.copy_within(at..len, at + k);
-    letters[at..at + k].fill(g);
     Ok(len + k)
 }
 
-// Puts the letters of a word of pairs generator, exponent before the letter at `at`.
+// How many letters the pairs of a word spell.
+fn size(word: &[u16]) -> usize
+    requires { length word.now ≤ 2 * 65535 }
+    ensures { result ≤ 65535 * length word.now }
+{
+    let mut sum = 0;
+    for [_, e] in word.as_chunks::<2>().0 {
+        sum += usize::from(*e);
+    }
+    sum
+}
+
+// Spells a word of pairs generator, exponent out into a row, as far as there is room.
+fn spell(word: &[u16], row: &mut [u16])
+    ensures { length row.new ≡ length row.old }
+{
+    let mut at = 0;
+    for [g, e] in word.as_chunks::<2>().0 {
+        let end = row.len().min(at + usize::from(*e));
+        row[at..end].fill(*g);
+        at = end;
+    }
+}
+
+// Puts the letters of a word before the letter at `at`; nothing where they do not fit.
 pub fn insert_word(word: &[u16], letters: &mut [u16], len: usize, at: usize) -> Result<usize, Full>
-    requires { (at ≤ len) × (len ≤ length letters.old) }
-    ensures len_bound { MatchResult result (λ grown. grown ≤ length letters.old) (λ full. full.len ≤ length letters.old) }
+    requires { (length word.now ≤ 2 * 65535) × (at ≤ len) × (len ≤ length letters.old) }
+    ensures len_bound { MatchResult result (λ grown. grown ≤ length letters.old) (λ full. full.len ≡ len) }
     ensures letters_len_unchanged { length letters.new ≡ length letters.old }
 {
-    let mut grown = len;
-    let mut to = at;
-    for [g, e] in word.as_chunks::<2>().0 {
-        let k = usize::from(*e);
-        grown = insert(letters, grown, to, *g, k)?;
-        to += k;
-    }
+    let k = size(word);
+    let grown = open(letters, len, at, k)?;
+    spell(word, &mut letters[at..at + k]);
     Ok(grown)
+}
+
+// Puts k letters g after the first `len`; nothing where they do not fit.
+fn append(letters: &mut [u16], len: usize, g: u16, k: usize) -> Result<usize, Full>
+    requires { len ≤ length letters.old }
+    ensures grows { MatchResult result (λ grown. (grown ≡ len + k) × (grown ≤ length letters.old)) (λ full. full.len ≡ len) }
+    ensures letters_len_unchanged { length letters.new ≡ length letters.old }
+{
+    if k > letters.len() - len {
+        return Err(Full { len });
+    }
+    letters[len..len + k].fill(g);
+    Ok(len + k)
 }
 
 // Appends a word of pairs generator, exponent to the first `len` letters, and answers how many there are now.
@@ -53,7 +85,11 @@ pub fn append_word(word: &[u16], letters: &mut [u16], len: usize) -> Result<usiz
     ensures len_bound { MatchResult result (λ grown. grown ≤ length letters.old) (λ full. full.len ≤ length letters.old) }
     ensures letters_len_unchanged { length letters.new ≡ length letters.old }
 {
-    insert_word(word, letters, len, len)
+    let mut grown = len;
+    for [g, e] in word.as_chunks::<2>().0 {
+        grown = append(letters, grown, *g, usize::from(*e))?;
+    }
+    Ok(grown)
 }
 
 // Appends the normal word of a vector to the first `len` letters, and answers how many there are now: x_1 as often as its first entry
@@ -65,7 +101,7 @@ pub fn append_vector(vector: &[u8], letters: &mut [u16], len: usize) -> Result<u
 {
     let mut grown = len;
     for (g, e) in (1..=40).zip(vector) {
-        grown = insert(letters, grown, grown, g, usize::from(*e))?;
+        grown = append(letters, grown, g, usize::from(*e))?;
     }
     Ok(grown)
 }

@@ -52,6 +52,13 @@ pub struct Stopped {
     pub count: u32,
 }
 
+// A replacement that could not be made, and how many letters there are now.
+#[derive(Clone, Copy)]
+struct Unmade {
+    fault: Fault,
+    len: usize,
+}
+
 // The p equal letters from `at` on become the word of their power.
 fn power(
     numbers: &[u16],
@@ -59,28 +66,44 @@ fn power(
     len: usize,
     at: usize,
     p: usize,
-) -> Result<usize, Fault>
+) -> Result<usize, Unmade>
     requires { (at + p ≤ len) × (at < len) × (len ≤ length letters.old) }
-    ensures len_bound { IfOk result (λ grown. grown ≤ length letters.old) }
+    ensures len_bound { MatchResult result (λ grown. grown ≤ length letters.old) (λ unmade. unmade.len ≤ length letters.old) }
     ensures letters_len_unchanged { length letters.new ≡ length letters.old }
 {
     let i = letters[at];
-    let word = word_of(numbers, i, i).ok_or(Fault::Senseless)?;
+    let Some(word) = word_of(numbers, i, i) else {
+        return Err(Unmade {
+            fault: Fault::Senseless,
+            len,
+        });
+    };
     let rest = close(letters, len, at, p);
-    insert_word(word, letters, rest, at).map_err(|_| Fault::NoRoom)
+    insert_word(word, letters, rest, at).map_err(|full| Unmade {
+        fault: Fault::NoRoom,
+        len: full.len,
+    })
 }
 
 // The letter at `at` and the lower one after it change places, and their relation's word follows.
-fn exchange(numbers: &[u16], letters: &mut [u16], len: usize, at: usize) -> Result<usize, Fault>
+fn exchange(numbers: &[u16], letters: &mut [u16], len: usize, at: usize) -> Result<usize, Unmade>
     requires { (at + 2 ≤ len) × (len ≤ length letters.old) }
-    ensures len_bound { IfOk result (λ grown. grown ≤ length letters.old) }
+    ensures len_bound { MatchResult result (λ grown. grown ≤ length letters.old) (λ unmade. unmade.len ≤ length letters.old) }
     ensures letters_len_unchanged { length letters.new ≡ length letters.old }
 {
     let j = letters[at];
     let i = letters[at + 1];
-    let word = word_of(numbers, i, j).ok_or(Fault::Senseless)?;
+    let Some(word) = word_of(numbers, i, j) else {
+        return Err(Unmade {
+            fault: Fault::Senseless,
+            len,
+        });
+    };
     letters.swap(at, at + 1);
-    insert_word(word, letters, len, at + 2).map_err(|_| Fault::NoRoom)
+    insert_word(word, letters, len, at + 2).map_err(|full| Unmade {
+        fault: Fault::NoRoom,
+        len: full.len,
+    })
 }
 
 // The non-normal subword that begins at `at` is replaced.
@@ -91,9 +114,9 @@ fn replace(
     at: usize,
     kind: Kind,
     p: usize,
-) -> Result<usize, Fault>
+) -> Result<usize, Unmade>
     requires { (at < len) × (at + reach kind p ≤ len) × (len ≤ length letters.old) }
-    ensures len_bound { IfOk result (λ grown. grown ≤ length letters.old) }
+    ensures len_bound { MatchResult result (λ grown. grown ≤ length letters.old) (λ unmade. unmade.len ≤ length letters.old) }
     ensures letters_len_unchanged { length letters.new ≡ length letters.old }
 {
     match kind {
@@ -127,9 +150,9 @@ pub fn rewrite(
         let Some((at, kind)) = leftmost(letters, len, p) else {
             return Ok(Rewritten { len, count });
         };
-        len = replace(numbers, letters, len, at, kind, p).map_err(|fault| Stopped {
-            fault,
-            len,
+        len = replace(numbers, letters, len, at, kind, p).map_err(|unmade| Stopped {
+            fault: unmade.fault,
+            len: unmade.len,
             count,
         })?;
     }

@@ -1,7 +1,7 @@
 // A relation's word in the lent numbers, found without any arithmetic of places: the relations are
 // walked in the order of the contents, (1, 1) .. (n, n), (1, 2), (1, 3) .., and the lengths of
 // those passed are summed. The starts that the contents hold are not read.
-ghost use Rattle.std.specs.Prelude.{◌≡◌, ◌+◌, ◌*◌, ◌≤◌, ◌<◌, slice_index, IfSome};
+ghost use Rattle.std.specs.Prelude.{◌≡◌, ◌+◌, ◌*◌, ◌≤◌, ◌<◌, length, slice_index, IfSome};
 
 // The relations of n = 40, the most there are.
 const MOST: usize = 820;
@@ -49,37 +49,55 @@ impl Name {
     }
 }
 
-// What stands before a relation in the contents; before none, all that stands there.
-fn before(numbers: &[u16], n: usize, wanted: Option<Name>) -> Passed
-    ensures { (result.relations ≤ 820) × (result.pairs ≤ 65535 * result.relations) }
+// What a walk finds: how many relations there are, and what stands before the wanted one in the contents.
+#[derive(Clone, Copy)]
+struct Walked {
+    relations: usize,
+    before: Passed,
+}
+
+// Walks past all relations, or past as many as there are of n = 40. Where the wanted one is none of them, all stand before it.
+fn walk(numbers: &[u16], n: usize, wanted: Name) -> Walked
+    ensures { (result.relations ≤ 820) × (result.before.relations ≤ 820) × (result.before.pairs ≤ 65535 * result.before.relations) }
 {
-    let mut name = Some(Name { i: 1, j: 1 });
+    let mut name = Name { i: 1, j: 1 };
+    let mut found = None;
     let mut pairs = 0;
     for relations in 0..MOST {
         if name == wanted {
-            return Passed { relations, pairs };
+            found = Some(Passed { relations, pairs });
         }
-        name = name.and_then(|passed| passed.next(n));
         pairs += number(numbers, 2 * relations + 3);
+        let Some(next) = name.next(n) else {
+            let relations = relations + 1;
+            let before = found.unwrap_or(Passed { relations, pairs });
+            return Walked { relations, before };
+        };
+        name = next;
     }
-    Passed {
+    let before = found.unwrap_or(Passed {
         relations: MOST,
         pairs,
+    });
+    Walked {
+        relations: MOST,
+        before,
     }
 }
 
 // The word of the relation (i, j). It is not found where there is no such relation or the numbers
 // end before its last pair.
-pub fn word_of(numbers: &[u16], i: u16, j: u16) -> Option<&[u16]> {
+pub fn word_of(numbers: &[u16], i: u16, j: u16) -> Option<&[u16]>
+    ensures { IfSome result (λ word. (length word.now ≤ length numbers.now) × (length word.now ≤ 2 * 65535)) }
+{
     let n = number(numbers, 1);
     let (i, j) = (usize::from(i), usize::from(j));
     if i == 0 || i > j || j > n {
         return None;
     }
-    let all = before(numbers, n, None);
-    let passed = before(numbers, n, Some(Name { i, j }));
-    let start = 2 + 2 * all.relations + 2 * passed.pairs;
-    let pairs = number(numbers, 2 * passed.relations + 3);
+    let walked = walk(numbers, n, Name { i, j });
+    let start = 2 + 2 * walked.relations + 2 * walked.before.pairs;
+    let pairs = number(numbers, 2 * walked.before.relations + 3);
     // Tested here, and not by `get`, so that what is proved of the part is that the word ends within the numbers.
     if start + 2 * pairs > numbers.len() {
         return None;

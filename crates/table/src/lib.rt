@@ -2,6 +2,8 @@
 // numbers in a field by single spaces. Reading asks nothing of a table: what is missing is empty, and what is no digit is passed over.
 #![tactic(auto)]
 
+ghost use Rattle.std.specs.Prelude.{◌≤◌, length, IfSome};
+
 use std::io::Read;
 use std::rt::Files;
 use std::{fs, io};
@@ -10,7 +12,9 @@ use total::part_mut;
 
 // Reads an open file until the bytes are full, the file ends or a read fails: what came. `pcp_run` has its own, where a failed read makes
 // the whole file count as empty: one function for both would give back what came and whether a read failed, and each would drop one.
-fn read_open<'a>(file: &mut impl Read, bytes: &'a mut [u8]) -> &'a [u8] {
+fn read_open<'a>(file: &mut impl Read, bytes: &'a mut [u8]) -> &'a [u8]
+    ensures { length result.now ≤ length bytes.old }
+{
     let mut at: usize = 0;
     while at < bytes.len() {
         let got = file.read(&mut bytes[at..]).unwrap_or(0);
@@ -23,19 +27,25 @@ fn read_open<'a>(file: &mut impl Read, bytes: &'a mut [u8]) -> &'a [u8] {
 }
 
 // What is read of the file of this name, where it can be opened. Paths are UTF-8 text here: any other name can't be opened.
-fn read_named<'a>(rt: &impl Files, name: &[u8], bytes: &'a mut [u8]) -> Option<&'a [u8]> {
+fn read_named<'a>(rt: &impl Files, name: &[u8], bytes: &'a mut [u8]) -> Option<&'a [u8]>
+    ensures { IfSome result (λ read. length read.now ≤ length bytes.old) }
+{
     let path = str::from_utf8(name).ok()?;
     let mut file = fs::open(rt, path).ok()?;
     Some(read_open(&mut file, bytes))
 }
 
 // Reads the file of this name, as far as there is room, and gives back the bytes that came: none if it can't be read.
-pub fn read_file<'a>(rt: &impl Files, name: &[u8], bytes: &'a mut [u8]) -> &'a [u8] {
+pub fn read_file<'a>(rt: &impl Files, name: &[u8], bytes: &'a mut [u8]) -> &'a [u8]
+    ensures { length result.now ≤ length bytes.old }
+{
     read_named(rt, name, bytes).unwrap_or(&[])
 }
 
 // Reads the file of this name as 16-bit numbers, low byte first, and gives back those that came. A presentation has at most 22,962.
-pub fn read_numbers<'a>(rt: &impl Files, name: &[u8], numbers: &'a mut [u16]) -> &'a [u16] {
+pub fn read_numbers<'a>(rt: &impl Files, name: &[u8], numbers: &'a mut [u16]) -> &'a [u16]
+    ensures { length result.now ≤ length numbers.old }
+{
     let mut bytes = [0u8; 45926];
     let count = numbers_of(read_file(rt, name, &mut bytes), numbers);
     &numbers[..count]
@@ -89,6 +99,7 @@ pub fn numbers_in<'a, T: TryFrom<u64> + Default + Drop>(
 ) -> &'a mut [T]
 where
     T::Error: Drop,
+    ensures { length result.now ≤ length out.old }
 {
     let mut count: usize = 0;
     for (place, digits) in out

@@ -1,5 +1,7 @@
 // Judging the lent numbers: the refusals 1 to 6 of document 01's table, in its order.
 ghost use Rattle.std.specs.Prelude.{◌≡◌, IfOk};
+ghost use Rattle.layout.specs.Header.{bodies_at};
+ghost use Rattle.layout.specs.Contents.{Lies};
 ghost use Rattle.layout.specs.Judged.{judged, rank_right};
 ghost use Rattle.layout.specs.Refusals.{given};
 
@@ -20,6 +22,7 @@ fn rank_right(rank: Generator) -> bool
 pub fn accept(numbers: &[u16]) -> Result<Group<'_>, Refusal>
     ensures number { given result ≡ judged numbers.now }
     ensures same { IfOk result (λ group. group.numbers ≡ numbers.entry) }
+    ensures lies { IfOk result (λ group. Lies numbers.entry (bodies_at numbers.now) group.bodies) }
 {
     if numbers.len() < 2 {
         return Err(Refusal::Short);

@@ -19,6 +19,13 @@ cleared-length v i h =
     let c : length (identity (length v - i)) ≡ length v - i = length-replicate (length v - i) 0 in
     omega (arith, a, b, c)
 
+-- What is cleared above i is so for good.
+pub cleared-twice : (v : Vector) (i : ℕ) → i ≤ length v → cleared i v ≡ cleared i (cleared i v)
+cleared-twice v i h =
+    sym
+    (ap (λ (x : Vector). x ++ identity (length (cleared i v) - i)) (take_at (take i v) (identity (length v - i)) i (length-take-le i v h))
+    ∙ ap (λ (x : ℕ). take i v ++ identity (x - i)) (cleared-length v i h))
+
 -- Nothing stands above the last entry.
 pub cleared-none : (v : Vector) (i : ℕ) → length v ≤ i → v ≡ cleared i v
 cleared-none v i h =

@@ -1,6 +1,6 @@
 -- Step 2 of a placing, from the last entry down: what its loop keeps.
 --
--- Main results: `met_zero`, `met_put`, `met_over`, `met_filled`, `met_all`: the turns of the loop and its ends.
+-- Main results: `met_start`, `met_zero`, `met_put`, `met_over`, `met_filled`, `met_all`: the turns of the loop and its ends.
 use mathlib.Core.Path.{◌≡◌, refl, sym, ap, ◌∙◌, subst}
 use mathlib.Core.List.{List}
 use Prim.Native.Nat.{ℕ, zero, suc, ◌+◌, ◌-◌, ◌*◌, ◌≤◌, ◌<◌}
@@ -19,9 +19,9 @@ use Rattle.slots.specs.declared.Slot.{Slot}
 use Rattle.slots.specs.Slots.{stack, Brought}
 use Rattle.slots.proofs.Stores.{length-stack}
 use Rattle.placing.specs.Exchange.{entry_slots, exchange_slots, cleared, Filled}
-use Rattle.placing.proofs.Tails.{total-from, total-part}
-use Rattle.placing.proofs.Clearing.{cleared-entry, cleared-next, cleared-zero, cleared-zeros}
-use Rattle.placing.proofs.Copies.{start_small, entry-small, exchange-zeros, turn-none, turn-put, turn-over}
+use Rattle.placing.proofs.Tails.{total-from, total-none, total-part}
+use Rattle.placing.proofs.Clearing.{cleared-none, cleared-entry, cleared-next, cleared-zero, cleared-zeros}
+use Rattle.placing.proofs.Copies.{start_small, entry-small, exchange-none, exchange-zeros, turn-none, turn-put, turn-over}
 
 -- The entries of v from the index `at` on are met: `u` is the vector then, `left` what the entries between i and `at` sum to, and the d
 -- slots of ws are those of the entries that are met, on the slots below.
@@ -32,6 +32,19 @@ pub record Met (nums : List ℕ) (i : ℕ) (v : Vector) (below : List Slot) (at 
   pub vector : u ≡ cleared at v
   pub slots : stack ws d ≡ exchange_slots nums i (at + 1) (drop at v) below
   pub fits : 3 * d ≤ length ws
+
+-- Before the first turn no entry is met.
+pub met_start : (nums : List ℕ) (i : ℕ) (v : Vector) (ws : List ℕ) (d : ℕ) → i ≤ length v → 3 * d ≤ length ws
+    → Met nums i v (stack ws d) (length v) (total (drop i v)) v ws d
+met_start nums i v ws d h f =
+    record {
+      above = h;
+      within = omega arith;
+      sum = omega (arith, total-none v (length v) (omega arith));
+      vector = cleared-none v (length v) (omega arith);
+      slots = sym (exchange-none nums i v (stack ws d) (length v) (omega arith));
+      fits = f;
+    }
 
 module _ {nums : List ℕ} {i : ℕ} {v : Vector} {below : List Slot} {at left : ℕ} {u : Vector} {ws : List ℕ} {d : ℕ}
     (met : Met nums i v below at left u ws d) where
@@ -91,8 +104,8 @@ module _ {nums : List ℕ} {i : ℕ} {v : Vector} {below : List Slot} {at left :
 
         -- .. where what is put for it starts, ..
         module _ (few : length nums ≤ bodies_at nums + 2 * 10660) {span : Span} (spans : Spans nums (row + (at - 1 - low)) span) where
-          pub met_start : span.start ≤ 10660
-          met_start = omega (arith, spans.start, start_small nums (row + (at - 1 - low)) measured few met_listed)
+          pub met_from : span.start ≤ 10660
+          met_from = omega (arith, spans.start, start_small nums (row + (at - 1 - low)) measured few met_listed)
 
           -- .. and puts its slots.
           module _ {g : Generator} (named : g.0 ≡ at - 1 + 1) {r : ℕ} {ws' : List ℕ}
@@ -108,7 +121,7 @@ module _ {nums : List ℕ} {i : ℕ} {v : Vector} {below : List Slot} {at left :
                 (subst (λ (x : Generator). Brought (entry_slots span x (get_or u (at - 1) 0) (stack ws d)) ws ws' r) named-is put))
 
             -- They are at most two for each of at most 255.
-            met_near : get_or u (at - 1) 0 < 256 → 3 * r ≤ length ws + 1530
+            pub met_near : get_or u (at - 1) 0 < 256 → 3 * r ≤ length ws + 1530
             met_near small =
                 let k = entry-small span g (stack ws d) (get_or u (at - 1) 0) in
                 omega (arith, length-stack ws d, k, put.depth, small, met.fits)

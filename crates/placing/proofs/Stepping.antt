@@ -20,8 +20,8 @@ use Rattle.layout.specs.Contents.{stretch_of}
 use Rattle.layout.specs.declared.refusal.Refusal.{Refusal}
 use Rattle.layout.specs.Refusals.{given}
 use Rattle.layout.specs.Relations.{presentation}
-use Rattle.slots.specs.Slots.{stack}
-use Rattle.slots.specs.Pieces.{Piece, meaning, pieces, leading, taken}
+use Rattle.slots.specs.Slots.{stack, on_top, lessened}
+use Rattle.slots.specs.Pieces.{Piece, power, string, meaning, pieces, leading, taken}
 use Rattle.slots.specs.Stacked.{Stacked, Took}
 use Rattle.slots.proofs.Stacks.{length-pieces, leading_top}
 use Rattle.placing.specs.Exchange.{exchanged, exchange, copies, exchange_slots, cleared, Filled}
@@ -44,6 +44,22 @@ pub exchange-grows : (nums : List ℕ) (i g : ℕ) (v : Vector) (below : List Pi
 exchange-grows nums i g [] below = omega arith
 exchange-grows nums i g (b ∷ v) below =
     omega (arith, exchange-grows nums i (suc g) v below, exchanged-grows (stretch_of nums i g) g b (exchange nums i (suc g) v below))
+
+-- Taking a letter adds at most one slot.
+lessened-small : (i e : ℕ) (below : List Piece) → length (lessened (power i) e below) ≤ suc (length below)
+lessened-small i e below = go (ltb 1 e)
+  where
+    go : (t : Bool) → length (on_top t (power i (e - 1)) below) ≤ suc (length below)
+    go true = omega arith
+    go false = omega arith
+
+taken-length : (slots : List Piece) → length (taken slots) ≤ suc (length slots)
+taken-length [] = omega arith
+taken-length (power i e ∷ below) = let h = lessened-small i e below in omega arith
+taken-length (string [] ∷ below) = omega arith
+taken-length (string (i ∷ []) ∷ below) = omega arith
+taken-length (string (i ∷ a ∷ []) ∷ below) = let h = lessened-small i a below in omega arith
+taken-length (string (i ∷ a ∷ g ∷ pairs) ∷ below) = lessened-small i a (string (g ∷ pairs) ∷ below)
 
 -- The number that is due, by its tests.
 due-more : (left c room r : ℕ) → room < r → 1 ≤ due left c room r
@@ -113,6 +129,9 @@ module _ {nums bodies word : List ℕ} {v : Vector} {ws : List ℕ} {d : ℕ} (r
 
   pub long : length v ≡ rank_of nums
   long = normal-length (presentation nums) (rank_of nums) 1 v ready.normal
+
+  pub taken-small : length (taken slots) ≤ suc d
+  taken-small = let l = length-pieces bodies word ws d in let h = taken-length slots in omega (arith, l, h)
 
   range : (1 ≤ leading slots) × (leading slots ≤ rank_of nums)
   range = leading_top bodies word (rank_of nums) ready.some ready.stacked

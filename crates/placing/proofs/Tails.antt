@@ -1,7 +1,8 @@
 -- Sums of a vector's tail, by index: what the loops over a vector keep.
 --
 -- Main results: `total-from`, `total-zeros`.
-use mathlib.Core.Path.{◌≡◌, sym, ap, ◌∙◌}
+use mathlib.Core.Path.{◌≡◌, refl, sym, ap, ◌∙◌}
+use mathlib.Core.List.{[], ◌∷◌}
 use Prim.Native.Nat.{ℕ, zero, suc, ◌+◌, ◌≤◌, ◌<◌}
 use native.Mathlib.Omega.{arith}
 use native.Mathlib.Numerals.{add-one}
@@ -13,6 +14,12 @@ use Rattle.theory.specs.Placing.{total}
 -- The entry at an index, and those after it.
 pub total-from : (v : Vector) (at : ℕ) → at < length v → total (drop at v) ≡ get_or v at 0 + total (drop (at + 1) v)
 total-from v at h = ap total (drop-cons v at 0 h) ∙ ap (λ (k : ℕ). get_or v at 0 + total (drop k v)) (sym (add-one at))
+
+pub total-none : (v : Vector) (at : ℕ) → length v ≤ at → total (drop at v) ≡ 0
+total-none [] zero h = refl
+total-none [] (suc at) h = refl
+total-none (a ∷ v) zero h = absurd (omega arith)
+total-none (a ∷ v) (suc at) h = total-none v at (omega arith)
 
 -- A part of the tail sums to no more than the tail.
 pub total-part : (v : Vector) (k at : ℕ) → at + k ≤ length v → total (drop (at + k) v) ≤ total (drop at v)

@@ -51,7 +51,7 @@ module _ (bodies word : List ℕ) where
   top-rest {x = x} {y = y} t r = rest-sound 40 bodies word x y t.stands.sources (top-stands t) r
 
   -- The pieces of a stack whose top slot is known.
-  pieces-top
+  pub pieces-top
       : {ws : List ℕ} {d : ℕ} {x : Slot} → Top bodies word ws d x
       → pieces bodies word ws d ≡ meaning bodies word x ∷ map (meaning bodies word) (stack ws (d - 1))
   pieces-top {ws} {d} t =
@@ -67,7 +67,7 @@ module _ (bodies word : List ℕ) where
   low t = rw (leads t) (leading_top bodies word 40 t.some t.stands).1
 
   -- Taking the top slot: from what was put back, what it means.
-  took
+  pub took
       : {ws ws' : List ℕ} {d r : ℕ} {x : Slot} → Top bodies word ws d x
       → Brought (remaining bodies word x (stack ws (d - 1))) ws ws' r → Took bodies word ws d ws' r
   took {ws} {ws'} {d} {r} {x} t b =

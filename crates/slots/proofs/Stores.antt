@@ -11,10 +11,11 @@ use lib.Seq.{get_or-set_other}
 use Rattle.std.proofs.Common.{rules}
 use Rattle.std.proofs.lemmas.List.{places}
 use Rattle.slots.specs.declared.Slot.{Slot}
-use Rattle.slots.specs.Slots.{decode, slot_at, stack, stored, Pushed}
+use Rattle.slots.specs.declared.Slot.TheVariants.{Power, Relation, Input}
+use Rattle.slots.specs.Slots.{decode, numbers_of, slot_at, stack, stored, Sound, Pushed}
 
 -- A store at or past slot number d leaves the d slots below alone.
-stack_set : (ws : List ℕ) (j x d : ℕ) → 3 * d ≤ j → stack (set ws j x) d ≡ stack ws d
+pub stack_set : (ws : List ℕ) (j x d : ℕ) → 3 * d ≤ j → stack (set ws j x) d ≡ stack ws d
 stack_set ws j x zero h = refl
 stack_set ws j x (suc d) h =
     rw (
@@ -37,6 +38,16 @@ slot_at-stored ws d a b c h =
     let second : get_or (stored ws d a b c) (3 * d + 1) 0 ≡ b = search (rules, places) in
     let third : get_or (stored ws d a b c) (3 * d + 2) 0 ≡ c = search (rules, places) in
     rw (first, second, third)
+
+-- The first number's range tells the kind.
+decode-own : (s : Slot) → Sound s → decode (get_or (numbers_of s) 0 0) (get_or (numbers_of s) 1 0) (get_or (numbers_of s) 2 0) ≡ s
+decode-own (Power i e) h = search rules
+decode-own (Relation s k) h = search rules
+decode-own (Input s k) h = search rules
+
+-- The numbers of a slot tell it.
+pub told : (slot : Slot) (l : List ℕ) → Sound slot → l ≡ numbers_of slot → decode (get_or l 0 0) (get_or l 1 0) (get_or l 2 0) ≡ slot
+told slot l h e = ap (λ (t : List ℕ). decode (get_or t 0 0) (get_or t 1 0) (get_or t 2 0)) e ∙ decode-own slot h
 
 -- Storing three numbers that tell a slot puts it on the stack.
 pub pushed

@@ -17,6 +17,12 @@ slot_of false false a b c = Input (a - 20000) b
 abbrev pub decode : ℕ → ℕ → ℕ → Slot
 decode a b c = slot_of (ltb a 41) (ltb a 20000) a b c
 
+-- The three numbers that the workspace holds of a slot: a power has no pairs, and a string the exponent 1.
+abbrev pub numbers_of : Slot → List ℕ
+numbers_of (Power i e) = i.0 ∷ 0 ∷ e.0 ∷ []
+numbers_of (Relation start pairs) = (41 + start) ∷ pairs ∷ 1 ∷ []
+numbers_of (Input start pairs) = (20000 + start) ∷ pairs ∷ 1 ∷ []
+
 -- Slot number d, the bottom one being 0.
 abbrev pub slot_at : List ℕ → ℕ → Slot
 slot_at ws d = decode (get_or ws (3 * d) 0) (get_or ws (3 * d + 1) 0) (get_or ws (3 * d + 2) 0)

@@ -19,7 +19,7 @@
 #![tactic(auto)]
 
 ghost use Rattle.std.specs.Prelude.{◌≡◌, ◌+◌, ◌*◌, ◌-◌, ◌/◌, ◌≤◌, ◌<◌, length, get_or, replicate};
-ghost use Rattle.slots.specs.Slots.{decode, slot_at, stack, Sound, Pushed, Brought, lessened, power_of, pair_of, front_of, rest_of};
+ghost use Rattle.slots.specs.Slots.{decode, numbers_of, slot_at, stack, Sound, Pushed, Brought, lessened, power_of, pair_of, front_of, rest_of};
 ghost use Rattle.slots.specs.declared.Slot.TheVariants.{Relation};
 ghost use Rattle.slots.specs.Pieces.{pieces, leading};
 ghost use Rattle.slots.specs.Stacked.{Standing, Stacked, Took};
@@ -74,7 +74,7 @@ impl Slot {
     // The three numbers that the workspace holds of the slot. A method, since a `From` cannot ask that the slot is sound.
     fn numbers(self) -> [u16; 3]
         requires { Sound self }
-        ensures { decode (get_or result 0 0) (get_or result 1 0) (get_or result 2 0) ≡ self }
+        ensures { result ≡ numbers_of self }
     {
         match self {
             Slot::Power(i, e) => [i.0, 0, e.0],

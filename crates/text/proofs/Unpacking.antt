@@ -31,13 +31,17 @@ number-at (low ∷ high ∷ bytes) (suc k) zero none h e = omega arith
 number-at (low ∷ high ∷ bytes) (suc k) (suc i) none h e = number-at bytes k i none (omega arith) (omega arith)
 
 -- Stores past the end change nothing.
-sets-out : (a l : List ℕ) (i : ℕ) → length l ≤ i → sets l i a ≡ l
+pub sets-out : (a l : List ℕ) (i : ℕ) → length l ≤ i → sets l i a ≡ l
 sets-out [] l i h = refl
 sets-out (x ∷ a) l i h = rw (set_out l i x h) (sets-out a l (suc i) (omega arith))
 
--- The store of one element more of a list.
-sets-step : (w l : List ℕ) (i : ℕ) → i < length w → sets (set l i (get_or w i 0)) (i + 1) (drop (i + 1) w) ≡ sets l i (drop i w)
-sets-step w l i h = rw (add-one i, drop-cons w i 0 h) refl
+-- The store of one element more of a list, whose next element goes to the place k.
+pub sets-step : (w l : List ℕ) (i k next : ℕ)
+    → next ≡ k + 1
+    → i < length w
+    → sets (set l k (get_or w i 0)) next (drop (i + 1) w) ≡ sets l k (drop i w)
+sets-step w l i k next e h =
+    rw (add-one i, drop-cons w i 0 h) (ap (λ (j : ℕ). sets (set l k (get_or w i 0)) j (drop (suc i) w)) (omega arith))
 
 -- The steps of the code, which goes through as many pairs of bytes as there is room for: the store of the number of the pair i, after
 -- which the rest goes to the next place ..
@@ -54,7 +58,7 @@ store-next bytes l pairs i count number cut many h e =
     ∙ ap (λ (pair : List ℕ). from_le_bytes w16 pair) (get_or-take count pairs i [] (omega (arith, length-take count pairs)))
     ∙ ap (λ (l : List (List ℕ)). from_le_bytes w16 (get_or l i [])) cut
     ∙ number-at bytes (length bytes / 2) i [] (omega (arith, length-take count pairs, many)) refl)
-    ∙ sets-step (numbers_of bytes) l i (omega (arith, length-take count pairs, numbers-length bytes, many))
+    ∙ sets-step (numbers_of bytes) l i i (i + 1) refl (omega (arith, length-take count pairs, numbers-length bytes, many))
 
 -- .. and where the count is reached, nothing of it is stored.
 pub store-end : (bytes l : List ℕ) (pairs : List (List ℕ)) (i count : ℕ)

@@ -1,6 +1,6 @@
 -- The turns of the loop and its ends, by the laws of `Met`: what is put for one entry, or that there is no room for it, or that the entry is 0.
 use Rattle.std.proofs.Common.{arith}
-use Rattle.placing.proofs.Exchanging.{met_more, met_part, met_listed, met_generator, met_start, met_zero, met_put, met_over, met_all, met_filled}
+use Rattle.placing.proofs.Exchanging.{met_more, met_part, met_listed, met_generator, met_from, met_zero, met_put, met_over, met_all, met_filled}
 use Rattle.placing.proofs.entries.exchange.Goals as goal
 
 pub overflow_sub-left : goal.overflow_sub-left
@@ -20,7 +20,7 @@ put_entry-d-requires-clause-g_bound c =
     let low = c.from-low.ensures in
     let more = met_more c.loop-left.invariant low (λ none. omega arith) in (
       omega (arith, c.at.ensures, met_generator c.loop-left.invariant low more c.args.spanned.measured c.requires.le_i.2),
-      met_start c.loop-left.invariant low more c.args.spanned.measured c.requires.le_i.2 c.args.spanned.listed.seen c.row_of-row.ensures.0
+      met_from c.loop-left.invariant low more c.args.spanned.measured c.requires.le_i.2 c.args.spanned.listed.seen c.row_of-row.ensures.0
           c.requires.numbers_len_bound c.span_at-span.ensures,
     )
 

@@ -1,7 +1,8 @@
 // Changing the lent letters: closing a gap, and spelling words and vectors out into them; and counting them.
 ghost use Rattle.std.specs.Prelude.{◌≡◌, ◌+◌, ◌*◌, ◌-◌, ◌≤◌, length, MatchResult};
 
-// A word or a vector that did not fit, and how many letters there are now: what came before the letters without room was put in.
+// A word or a vector that did not fit, and how many letters there are now. Where letters are appended, what came before those without room
+// was put in.
 #[derive(Clone, Copy, PartialEq, Eq, Debug)]
 pub struct Full {
     pub len: usize,
@@ -26,7 +27,10 @@ fn open(letters: &mut [u16], len: usize, at: usize, k: usize) -> Result<usize, F
     if k > letters.len() - len {
         return Err(Full { len });
     }
-    letters.copy_within(at..len, at + k);
+    // Most words are empty: nothing moves then.
+    if k != 0 {
+        letters.copy_within(at..len, at + k);
+    }
     Ok(len + k)
 }
 

@@ -49,40 +49,42 @@ impl Name {
     }
 }
 
-// What a walk finds: how many relations there are, and what stands before the wanted one in the contents.
-#[derive(Clone, Copy)]
-struct Walked {
-    relations: usize,
-    before: Passed,
-}
-
-// Walks past all relations, or past as many as there are of n = 40. Where the wanted one is none of them, all stand before it.
-fn walk(numbers: &[u16], n: usize, wanted: Name) -> Walked
-    ensures { (result.relations ≤ 820) × (result.before.relations ≤ 820) × (result.before.pairs ≤ 65535 * result.before.relations) }
+// What stands before a relation in the contents; before one that is not among the first 820, all that stands there of those.
+fn before(numbers: &[u16], n: usize, wanted: Name) -> Passed
+    ensures { (result.relations ≤ 820) × (result.pairs ≤ 65535 * result.relations) }
 {
     let mut name = Name { i: 1, j: 1 };
-    let mut found = None;
     let mut pairs = 0;
     for relations in 0..MOST {
         if name == wanted {
-            found = Some(Passed { relations, pairs });
+            return Passed { relations, pairs };
         }
         pairs += number(numbers, 2 * relations + 3);
         let Some(next) = name.next(n) else {
             let relations = relations + 1;
-            let before = found.unwrap_or(Passed { relations, pairs });
-            return Walked { relations, before };
+            return Passed { relations, pairs };
         };
         name = next;
     }
-    let before = found.unwrap_or(Passed {
+    Passed {
         relations: MOST,
         pairs,
-    });
-    Walked {
-        relations: MOST,
-        before,
     }
+}
+
+// How many relations there are, up to those of n = 40. A walk of its own, which sums nothing: one walk for both took longer where the wanted
+// relation stands early.
+fn count(n: usize) -> usize
+    ensures { result ≤ 820 }
+{
+    let mut name = Name { i: 1, j: 1 };
+    for relations in 1..MOST {
+        let Some(next) = name.next(n) else {
+            return relations;
+        };
+        name = next;
+    }
+    MOST
 }
 
 // The word of the relation (i, j). It is not found where there is no such relation or the numbers
@@ -95,9 +97,9 @@ pub fn word_of(numbers: &[u16], i: u16, j: u16) -> Option<&[u16]>
     if i == 0 || i > j || j > n {
         return None;
     }
-    let walked = walk(numbers, n, Name { i, j });
-    let start = 2 + 2 * walked.relations + 2 * walked.before.pairs;
-    let pairs = number(numbers, 2 * walked.before.relations + 3);
+    let passed = before(numbers, n, Name { i, j });
+    let start = 2 + 2 * count(n) + 2 * passed.pairs;
+    let pairs = number(numbers, 2 * passed.relations + 3);
     // Tested here, and not by `get`, so that what is proved of the part is that the word ends within the numbers.
     if start + 2 * pairs > numbers.len() {
         return None;

@@ -1,5 +1,5 @@
 // What the witness programs (trials, foreign, corners) have in common: parts of slices and storing that ask nothing of their callers, and
-// printing. The programs are proved safe and no more, so the functions here promise what that needs and no more.
+// printing. The programs are proved safe and no more; the functions here promise which part comes back and what is stored.
 #![tactic(auto)]
 
 pub mod arith; // parts of slices, and storing that stays in bounds

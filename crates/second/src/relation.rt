@@ -72,7 +72,7 @@ fn before(numbers: &[u16], n: usize, wanted: Name) -> Passed
     }
 }
 
-// How many relations there are, up to those of n = 40. A walk of its own, which sums nothing: one walk for both took longer where the wanted
+// How many relations there are for n from 1 on, up to those of n = 40. A walk of its own, which sums nothing: one walk for both took longer where the wanted
 // relation stands early.
 fn count(n: usize) -> usize
     ensures { result ≤ 820 }
